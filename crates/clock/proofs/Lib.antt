@@ -1,0 +1,3 @@
+pub mod Doubling
+pub mod Halving
+pub mod Product
