@@ -1,3 +1,4 @@
+pub mod Branches
 pub mod Doubling
 pub mod Halving
 pub mod Product

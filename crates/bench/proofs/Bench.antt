@@ -1,0 +1,29 @@
+-- The bench values hold: each definition is computed at its case.
+use mathlib.Core.Path.{refl}
+use Rattle.clock.specs.Clock.{decodeTimeout, halvedIn, halved, encodeTimeout, decodeVcsel, microsecondsOf, mclksOf}
+use Rattle.spad.specs.Map.{bitsOf, byteOf, mapBits, mapBytes, keep, selected}
+use Rattle.budget.specs.Timeouts.{preClocks, wholeClocks, preShare, finalClocks, prePeriod, msrcClocks, finalPeriod, msrcTime, preTime, finalTime}
+use Rattle.budget.specs.Places.{timeoutPlace, periodPlace, lessPlace, placesOf, firstOf, firstPlace}
+use Rattle.budget.specs.Budget.{dssPart, stepSum, budgetSum, usedSum, timingBudget, wordOfSum, wordWithin, finalRangeWord}
+use Rattle.bench.specs.Bench.{BenchValues}
+
+pub bench : BenchValues
+unfolding decodeTimeout halvedIn halved encodeTimeout decodeVcsel microsecondsOf mclksOf bitsOf byteOf mapBits mapBytes keep selected preClocks wholeClocks preShare finalClocks prePeriod msrcClocks finalPeriod msrcTime preTime finalTime timeoutPlace periodPlace lessPlace placesOf firstOf firstPlace dssPart stepSum budgetSum usedSum timingBudget wordOfSum wordWithin finalRangeWord
+bench = record {
+  decode-0000 = refl;
+  decode-0FFF = refl;
+  decode-1000 = refl;
+  encode-0 = refl;
+  encode-256 = refl;
+  encode-258 = refl;
+  decode-0180 = refl;
+  encode-65535 = refl;
+  vcsel-6 = refl;
+  vcsel-127 = refl;
+  vcsel-128 = refl;
+  macro-14 = refl;
+  map-5 = refl;
+  map-0 = refl;
+  call-15 = refl;
+  call-9 = refl;
+}

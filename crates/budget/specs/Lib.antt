@@ -1,0 +1,4 @@
+pub mod Registers
+pub mod Timeouts
+pub mod Places
+pub mod Budget
