@@ -8,10 +8,10 @@ use Rattle.clock.specs.declared.PclksOr.{PclksOr}
 use Rattle.clock.specs.declared.MicrosecondsOr.{MicrosecondsOr}
 use Rattle.clock.specs.Clock.{decodeTimeout, encodeTimeout, decodeVcsel, macroPeriod}
 use Rattle.spad.specs.Map.{selected}
-use Rattle.budget.specs.declared.TimingRegisters.{TimingRegisters}
+use Rattle.timing.specs.declared.TimingRegisters.{TimingRegisters}
 use Rattle.budget.specs.declared.DssTerm.{DssTerm}
 use Rattle.budget.specs.declared.WordOr.{WordOr}
-use Rattle.budget.specs.Registers.{registersOf}
+use Rattle.timing.specs.Registers.{registersOf}
 use Rattle.budget.specs.Budget.{timingBudget, finalRangeWord}
 
 -- "map FF six times"

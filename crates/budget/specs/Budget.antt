@@ -1,54 +1,18 @@
 -- The measurement timing budget of call 15, and the final range word that call 9 writes.
-use mathlib.Core.Bool.{Bool, cond}
-use Prim.Native.Nat.{ℕ, _+_, _-_, _*_}
+use mathlib.Core.Bool.{cond}
+use Prim.Native.Nat.{ℕ, _+_, _-_}
 use lib.Dec.{ltb}
-use Rattle.clock.specs.declared.Mclks.{Mclks}
 use Rattle.clock.specs.declared.Microseconds.{Microseconds}
 use Rattle.clock.specs.declared.MicrosecondsOr.{MicrosecondsOr}
 use Rattle.clock.specs.declared.WideMclksOr.{WideMclksOr}
 use Rattle.clock.specs.Clock.{encodeTimeout, toMclks, cutMclks}
-use Rattle.budget.specs.declared.TimingRegisters.{TimingRegisters}
-use Rattle.budget.specs.declared.Steps.{Steps}
-use Rattle.budget.specs.declared.PlaceOr.{PlaceOr}
+use Rattle.timing.specs.declared.TimingRegisters.{TimingRegisters}
+use Rattle.timing.specs.declared.PlaceOr.{PlaceOr}
+use Rattle.timing.specs.Timeouts.{preShare, finalPeriod}
+use Rattle.timing.specs.Places.{firstPlace}
 use Rattle.budget.specs.declared.DssTerm.{DssTerm}
 use Rattle.budget.specs.declared.WordOr.{WordOr}
-use Rattle.budget.specs.Registers.{stepsOf}
-use Rattle.budget.specs.Timeouts.{preShare, finalPeriod, timeIn, msrcTime, preTime, finalTime}
-use Rattle.budget.specs.Places.{firstPlace}
-
--- 01: "Call 15 uses start 1910 and 2 × (MSRC + 690) for DSS; call 9 uses start 1320 and 2 × MSRC + 690."
-abbrev pub dssOf : DssTerm → ℕ → ℕ
-dssOf DssTerm.Twice msrc = 2 * (msrc + 690)
-dssOf DssTerm.Once msrc = 2 * msrc + 690
-
--- what a step adds while it is on
-abbrev pub whenOn : Bool → ℕ → ℕ
-whenOn on n = cond on n 0
-
--- MSRC counts only where DSS is off
-unfoldable pub dssPart : Steps → DssTerm → ℕ → ℕ
-dssPart on dss msrc = cond (on .dss) (dssOf dss msrc) (whenOn (on .msrc) (msrc + 660))
-
--- lib.rs: the sum of get_measurement_timing_budget and of set_measurement_timing_budget: start and end, then each step that is on
-unfoldable pub stepSum : Steps → ℕ → DssTerm → ℕ → ℕ → ℕ → ℕ
-unfolding dssPart
-stepSum on start dss msrc pre last =
-    start + 960
-    + whenOn (on .tcc) (msrc + 590)
-    + dssPart on dss msrc
-    + whenOn (on .prerange) (pre + 660)
-    + whenOn (on .finalrange) last
-
--- call 15's sum, and call 9's without the final range
-unfoldable pub budgetSum : TimingRegisters → Microseconds
-budgetSum r = record {
-  0 = stepSum (stepsOf (r .sequence)) 1910 DssTerm.Twice (timeIn (msrcTime r) .0) (timeIn (preTime r) .0) (timeIn (finalTime r) .0 + 550);
-}
-
-unfoldable pub usedSum : TimingRegisters → DssTerm → Microseconds
-usedSum r dss = record {
-  0 = stepSum (stepsOf (r .sequence)) 1320 dss (timeIn (msrcTime r) .0) (timeIn (preTime r) .0) 550;
-}
+use Rattle.budget.specs.Sums.{budgetSum, usedSum}
 
 -- call 15: a place, or the budget
 abbrev pub budgetAfter : PlaceOr → TimingRegisters → MicrosecondsOr

@@ -1,4 +1,2 @@
-pub mod Registers
-pub mod Timeouts
-pub mod Places
+pub mod Sums
 pub mod Budget

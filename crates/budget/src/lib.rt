@@ -1,46 +1,10 @@
-// The arithmetic on the six budget replies: which steps are on, the timeouts and the places where
-// the Rust panics on them, the budget of call 15, and the final range word of call 9.
-mod budget;
-mod places;
-mod registers;
-mod timeouts;
+// What the six budget replies amount to: the measurement timing budget of call 15, and the final
+// range word that call 9 writes.
+mod answers;
+mod sums;
 
-pub use budget::final_range_word;
-pub use budget::timing_budget;
-pub use places::first_place;
-pub use registers::sequence_steps;
-pub use registers::timing_registers;
-
-// The six budget replies, by the register that each was read from.
-pub struct TimingRegisters {
-    // 0x01 SYSTEM_SEQUENCE_CONFIG
-    pub sequence: u8,
-    // 0x51 PRE_RANGE_CONFIG_TIMEOUT_MACROP_HI
-    pub pretimeout: u16,
-    // 0x71 FINAL_RANGE_CONFIG_TIMEOUT_MACROP_HI
-    pub finaltimeout: u16,
-    // 0x50 PRE_RANGE_CONFIG_VCSEL_PERIOD
-    pub preperiod: u8,
-    // 0x46 MSRC_CONFIG_TIMEOUT_MACROP
-    pub msrctimeout: u8,
-    // 0x70 FINAL_RANGE_CONFIG_VCSEL_PERIOD
-    pub finalperiod: u8,
-}
-
-// Which steps of the sequence are on.
-pub struct Steps {
-    pub tcc: bool,
-    pub dss: bool,
-    pub msrc: bool,
-    pub prerange: bool,
-    pub finalrange: bool,
-}
-
-// The first place of the replies that are known, if there is one.
-pub enum PlaceOr {
-    Clear,
-    Place(u8),
-}
+pub use answers::final_range_word;
+pub use answers::timing_budget;
 
 // How often the DSS overhead is counted: twice by call 15, once by call 9.
 pub enum DssTerm {

@@ -1,7 +1,8 @@
--- The shift over any width w: a number added to itself in w bits is shifted once more, so repeated wrapping doubling is the shift.
-use mathlib.Core.Path.{_≡_, refl, sym, ap, _∙_, subst}
-use Prim.Native.Nat.{ℕ, zero, suc, _+_, _*_, _/_, _%_, _^_, _≤_, _<_}
+-- The shift over any width w: a number added to itself in w bits is shifted once more, so repeated wrapping doubling is the shift (`doubling-shifts`).
+use mathlib.Core.Path.{_≡_, sym, ap, _∙_, subst}
+use Prim.Native.Nat.{ℕ, zero, suc, _+_, _*_, _/_, _%_, _^_, _<_}
 use native.Mathlib.Nat.{add-mod, mod-eq-of-lt, mod-lt, mul-one, mul-assoc, mul-comm, pow-succ'}
+use native.Mathlib.Numerals.{add-one}
 use native.Mathlib.Omega.{arith}
 use lib.Pow.{pow-pos, pow-add}
 use lib.Arith.{mod-mul}
@@ -22,6 +23,16 @@ doubled-once w x = ap (λ (n : ℕ). n % 2 ^ w) (twice x)
 
 pub shifted-more : (w x k : ℕ) → (shifted w x k + shifted w x k) % 2 ^ w ≡ shifted w x (k + 1)
 shifted-more w x k = sym (add-mod (x * 2 ^ k) (x * 2 ^ k) (2 ^ w)) ∙ ap (λ (n : ℕ). n % 2 ^ w) (twice (x * 2 ^ k) ∙ one-more x k)
+
+-- x added to itself k times over, each time in w bits
+unfoldable pub doubledIn : ℕ → ℕ → ℕ → ℕ
+doubledIn w x zero = x
+doubledIn w x (suc k) = (doubledIn w x k + doubledIn w x k) % 2 ^ w
+
+pub doubling-shifts : (w x k : ℕ) → x < 2 ^ w → doubledIn w x k ≡ shifted w x k
+unfolding doubledIn
+doubling-shifts w x zero h = shifted-none w x h
+doubling-shifts w x (suc k) h = rw (doubling-shifts w x k h) (shifted-more w x k ∙ rw add-one)
 
 -- where x leaves the top bit free, 1 can be added after any shift: what is shifted is even
 even : (a p : ℕ) → 0 < p → a * 2 % (p * 2) ≡ a % p * 2

@@ -1,5 +1,5 @@
 -- A product's bound, for any two widths.
-use mathlib.Core.Path.{_≡_, sym, subst}
+use mathlib.Core.Path.{sym, subst}
 use Prim.Native.Nat.{ℕ, _+_, _*_, _^_, _<_}
 use native.Mathlib.Nat.{lt-of-le-of-lt, le-of-lt, mul-le-mul-left, mul-lt-mul-of-pos-right}
 use lib.Pow.{pow-pos, pow-add}

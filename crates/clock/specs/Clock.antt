@@ -1,6 +1,6 @@
 -- 01, "Clock arithmetic", in its order. Where the Rust, built with overflow checks, panics, the answer is the place that 01 gives to that arithmetic.
-use Prim.Native.Nat.{ℕ, zero, suc, _+_, _-_, _*_, _/_, _%_, _^_}
 use mathlib.Core.Bool.{cond}
+use Prim.Native.Nat.{ℕ, zero, suc, _+_, _-_, _*_, _/_, _%_, _^_}
 use lib.Dec.{leb, ltb, eqb}
 use Rattle.clock.specs.declared.Mclks.{Mclks}
 use Rattle.clock.specs.declared.WideMclks.{WideMclks}

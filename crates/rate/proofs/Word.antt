@@ -4,7 +4,7 @@ use mathlib.Core.Bool.{Bool, true, false, not, _&&_, cond}
 use Prim.Native.Nat.{ℕ, _*_, _/_, _%_, _^_, _≤_, _<_}
 use borrow.Author.Tests.{le-ltb}
 use lib.Dec.{T}
-use lib.Ieee.{Float, binary32, ofBits, toBits, isNan, nanBits, le, mul, toUnsigned}
+use lib.Ieee.{Float, binary32, ofBits, toBits, nanBits, le, mul, toUnsigned}
 use lib.Ieee.Bits.{nanBits-above, ofBits-toBits}
 use lib.Ieee.Fits.{and-l, and-r, mul-fits}
 use lib.Ieee.Positive.{num, den}
@@ -56,12 +56,9 @@ module _ (b : ℕ) (h : inRange (ofBits binary32 b) ≡ true) where
       let t : T (le zero-limit x && le x top-limit) = subst T (sym h ∙ in-range x) tt in
       scaled-pattern b (and-l (le zero-limit x) (le x top-limit) t) (and-r (le zero-limit x) (le x top-limit) t)
 
-  pub number : T (not (isNan product))
-  number = scaled .0
-
   pub word : Word (toUnsigned 16 product) ≡ rateWord b
   unfolding rateWord
-  word = ap Word (scaled .1) ∙ sym (rate-of (ofBits binary32 b) true h)
+  word = ap Word scaled ∙ sym (rate-of (ofBits binary32 b) true h)
 
   pub word-by-bits : Word (toUnsigned 16 (ofBits binary32 (toBits binary32 product))) ≡ rateWord b
   word-by-bits = ap (λ (y : Float). Word (toUnsigned 16 y)) (ofBits-toBits binary32 product (mul-fits binary32 (ofBits binary32 b) scale)) ∙ word

@@ -1,6 +1,6 @@
 -- The number of call 14. 01: "In 0.0..=511.99 it writes limit × 128 cut to a whole number; NaN and all else give 1." Definitions only.
-use Prim.Native.Nat.{ℕ, _*_, _/_}
 use mathlib.Core.Bool.{Bool, false, _&&_, cond}
+use Prim.Native.Nat.{ℕ, _*_, _/_}
 use lib.Ieee.{Float, binary32, round, ofBits, le}
 use lib.Ieee.Positive.{num, den}
 use Rattle.rate.specs.declared.RateWord.{RateWord}

@@ -1,12 +1,12 @@
-// What the crate budget answers.
+// What the crates timing and budget answer.
 use crate::clocks;
 use crate::print;
 use crate::record;
 use budget::DssTerm;
-use budget::PlaceOr;
-use budget::TimingRegisters;
 use budget::WordOr;
 use clock::Microseconds;
+use timing::PlaceOr;
+use timing::TimingRegisters;
 
 fn replies(b: [u8; 8]) {
     print::hex(b[0]);
@@ -40,7 +40,7 @@ fn reply_and_place(known: u8, place: u8) -> bool {
 
 // Whether the first `known` replies have a place; if so, it is written.
 fn has_place(r: TimingRegisters, known: u8) -> bool {
-    match budget::first_place(r, known) {
+    match timing::first_place(r, known) {
         PlaceOr::Place(p) => reply_and_place(known, p),
         PlaceOr::Clear => false,
     }
@@ -75,7 +75,7 @@ pub fn timing_budget(r: [u8; 13]) {
     print::text(b"budget ");
     replies(bytes);
     answers(
-        budget::timing_registers(bytes),
+        timing::timing_registers(bytes),
         record::number(r[9], r[10], r[11], r[12]),
     );
 }

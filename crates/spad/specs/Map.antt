@@ -1,7 +1,7 @@
 -- The detector map and its selection. 01, "Detector map"; lib.rs: init_hardware, the loop over 48 bits.
-use Prim.Native.Nat.{ℕ, zero, suc, _+_, _-_, _*_, _/_, _%_, _^_}
 use mathlib.Core.Bool.{Bool, true, false, cond}
 use mathlib.Core.List.{List, [], _∷_, _++_}
+use Prim.Native.Nat.{ℕ, zero, suc, _+_, _-_, _*_, _/_, _%_, _^_}
 use lib.Dec.{eqb}
 use lib.ListN.{take, drop, getD}
 use lib.Count.{ones}

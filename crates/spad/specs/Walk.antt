@@ -1,8 +1,8 @@
 -- What the private functions ensure of one bit and of one byte. The public contract does not rest on these.
 use mathlib.Core.Path.{_≡_}
-use Prim.Native.Nat.{ℕ, _%_, _-_, _≤_}
 use mathlib.Core.Bool.{Bool}
 use mathlib.Core.List.{List, _∷_}
+use Prim.Native.Nat.{ℕ, _%_, _-_, _≤_}
 use lib.Dec.{eqb}
 use lib.Count.{ones}
 use Rattle.spad.specs.Map.{bitsOf, byteOf, keep}

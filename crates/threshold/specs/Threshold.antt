@@ -1,6 +1,6 @@
 -- The interrupt thresholds. 01, calls 10 and 11; lib.rs: set_interrupt_thresholds_mm, get_interrupt_thresholds_mm.
-use Prim.Native.Nat.{_*_, _/_, _%_}
 use mathlib.Core.Bool.{Bool, true, false, _||_}
+use Prim.Native.Nat.{_*_, _/_, _%_}
 use lib.Dec.{ltb}
 use Rattle.threshold.specs.declared.Millimeters.{Millimeters}
 use Rattle.threshold.specs.declared.RawThreshold.{RawThreshold}

@@ -1,5 +1,5 @@
 -- The proof of the cycle of calls {halve}: the measure is the number itself, which falls as it is halved.
-use mathlib.Core.Path.{_≡_, ap, _∙_, subst, sym}
+use mathlib.Core.Path.{ap, _∙_, subst, sym}
 use Prim.Native.Nat.{ℕ, _+_, _/_, _≤_, _<_}
 use native.Mathlib.Omega.{arith}
 use borrow.Author.Needs.{needs}

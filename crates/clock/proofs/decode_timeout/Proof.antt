@@ -1,5 +1,5 @@
 -- `clock::decode_timeout` meets its contract. A byte shifted in 16 bits is even or small, so it leaves room for the 1.
-use mathlib.Core.Path.{_≡_, sym, subst}
+use mathlib.Core.Path.{sym, subst}
 use Prim.Native.Nat.{ℕ, _+_, _/_, _%_, _^_, _<_, _≤_}
 use native.Mathlib.Omega.{arith}
 use borrow.Author.Needs.{needs}

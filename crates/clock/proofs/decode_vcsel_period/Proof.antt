@@ -1,12 +1,7 @@
 -- `clock::decode_vcsel_period` meets its contract: a byte added to itself is the byte doubled in 8 bits.
-use mathlib.Core.Path.{_≡_, refl, sym, ap, _∙_}
-use mathlib.Core.Bool.{Bool, cond}
-use Prim.Native.Nat.{ℕ, _+_, _*_, _%_, _^_}
-use native.Mathlib.Omega.{arith}
 use borrow.Author.Needs.{needs}
 use borrow.Author.Tests.{eq-eqb, ne-eqb}
 use Rattle.clock.specs.Clock.{decodeVcsel}
-use Rattle.clock.specs.declared.PclksOr.{PclksOr}
 use Rattle.clock.proofs.Doubling.{doubled-once}
 use Rattle.clock.proofs.decode_vcsel_period.Statement.{statement}
 use Rattle.clock.proofs.decode_vcsel_period.Tie as tie

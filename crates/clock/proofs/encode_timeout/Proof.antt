@@ -1,5 +1,4 @@
 -- `clock::encode_timeout` meets its contract.
-use mathlib.Core.Path.{_≡_}
 use borrow.Author.Needs.{needs}
 use borrow.Author.Tests.{eq-eqb, ne-eqb}
 use Rattle.clock.specs.Clock.{encodeTimeout}

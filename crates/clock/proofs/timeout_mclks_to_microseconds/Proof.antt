@@ -1,11 +1,11 @@
 -- `clock::timeout_mclks_to_microseconds` meets its contract: the sum fits 64 bits, and each branch is a case of the definition over the macro period.
 use mathlib.Core.Path.{_≡_, ap, _∙_}
-use Prim.Native.Nat.{ℕ, _+_, _*_, _/_, _^_, _<_, _≤_}
+use Prim.Native.Nat.{_+_, _*_, _/_, _^_, _<_, _≤_}
 use native.Mathlib.Nat.{lt-of-lt-of-le}
-use lib.Dec.{lit≤}
 use native.Mathlib.Omega.{arith}
 use borrow.Author.Needs.{needs}
 use borrow.Author.Tests.{lt-ltb, le-ltb}
+use lib.Dec.{lit≤}
 use Rattle.clock.specs.Clock.{microsecondsOf}
 use Rattle.clock.specs.declared.Mclks.{Mclks}
 use Rattle.clock.specs.declared.Nanoseconds.{Nanoseconds}

@@ -1,6 +1,6 @@
 -- `clock::timeout_microseconds_to_mclks` meets its contract: each branch is a case of the definition over the macro period.
 use mathlib.Core.Path.{_≡_, ap, _∙_}
-use Prim.Native.Nat.{ℕ, _*_, _+_, _/_, _^_, _<_, _≤_}
+use Prim.Native.Nat.{_*_, _+_, _/_, _^_, _<_, _≤_}
 use native.Mathlib.Omega.{arith}
 use native.Mathlib.Nat.{div-le-self, lt-of-le-of-lt}
 use borrow.Author.Needs.{needs}

@@ -1,12 +1,14 @@
 -- `rate::rate_word` meets its contract: each branch is a law of `proofs/Word.antt`.
-use mathlib.Core.Path.{_≡_, ap, _∙_}
+use mathlib.Core.Path.{_≡_, sym, ap, _∙_, subst}
 use mathlib.Core.Bool.{true}
 use native.Mathlib.Omega.{arith}
 use borrow.Author.Needs.{needs}
-use lib.Ieee.{Float, binary32, ofBits}
+use lib.Dec.{T}
+use lib.Ieee.{Float, binary32, ofBits, le}
 use Rattle.rate.specs.Rate.{inRange}
 use Rattle.rate.specs.declared.RateWord.the-variants.{Word}
-use Rattle.rate.proofs.Word.{no-nan, refused-nan, refused-below, refused-above, ranged, number, word-by-bits}
+use Rattle.rate.proofs.Word.{no-nan, refused-nan, refused-below, refused-above, ranged, word-by-bits}
+use Rattle.rate.proofs.Product.{product-number, in-range-finite}
 use Rattle.rate.proofs.rate_word.Statement.{statement}
 use Rattle.rate.proofs.rate_word.Tie as tie
 
@@ -23,7 +25,11 @@ in-range : (c : tie.Then3) → inRange (limit (c .before .before .before)) ≡ t
 in-range c = ranged (limit (c .before .before .before)) (c .before .if2 .taken) (c .if3 .taken)
 
 float-to-bits-whole-part : tie.Need-float-to-bits-whole-part
-float-to-bits-whole-part c = number (c .before .before .before .args .bits) (in-range c)
+unfolding ofBits
+float-to-bits-whole-part c =
+    let lo : T (le (ofBits binary32 0) (limit (c .before .before .before))) = subst T (sym (c .before .if2 .taken)) tt in
+    let hi : T (le (limit (c .before .before .before)) (ofBits binary32 0x43ff_feb8)) = subst T (sym (c .if3 .taken)) tt in
+    product-number (limit (c .before .before .before)) _ (in-range-finite (limit (c .before .before .before)) lo hi) tt
 
 whole-part-requires : tie.Need-whole-part-requires
 whole-part-requires c κs = search needs

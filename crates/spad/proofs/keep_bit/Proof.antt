@@ -1,8 +1,8 @@
 -- `spad::keep_bit` meets its contract: each branch is one of the laws of one bit.
-use borrow.Author.Needs.{needs}
-use native.Mathlib.Omega.{arith}
-use lib.Dec.{eqb}
 use Prim.Native.Nat.{_%_}
+use native.Mathlib.Omega.{arith}
+use borrow.Author.Needs.{needs}
+use lib.Dec.{eqb}
 use Rattle.spad.proofs.Keep.{keep-skip, keep-none, keep-one}
 use Rattle.spad.proofs.keep_bit.Statement.{statement}
 use Rattle.spad.proofs.keep_bit.Tie as tie

@@ -1,0 +1,82 @@
+// Call 15's value and call 9's word: the first place of the replies, or what the sums give.
+ghost use mathlib.Core.Path.{_≡_};
+ghost use Rattle.budget.specs.Budget.{budgetAfter, timingBudget, wordOfSum, wordOfClocks, wordWithin, wordAfter, finalRangeWord};
+use crate::DssTerm;
+use crate::WordOr;
+use crate::sums::budget_sum;
+use crate::sums::used_sum;
+use clock::Mclks;
+use clock::Microseconds;
+use clock::MicrosecondsOr;
+use clock::WideMclksOr;
+use timing::PlaceOr;
+use timing::TimingRegisters;
+use timing::final_period;
+use timing::first_place;
+use timing::pre_share;
+
+fn budget_after(place: PlaceOr, r: TimingRegisters) -> MicrosecondsOr
+    ensures { λ t. ⌜ t ≡ budgetAfter place r ⌝ }
+{
+    match place {
+        PlaceOr::Place(p) => MicrosecondsOr::Place(p),
+        PlaceOr::Clear => MicrosecondsOr::Value(budget_sum(r)),
+    }
+}
+
+// Call 15: the first place, or the measurement timing budget that the replies amount to.
+pub fn timing_budget(r: TimingRegisters) -> MicrosecondsOr
+    ensures { λ t. ⌜ t ≡ timingBudget r ⌝ }
+{
+    budget_after(first_place(r, 6), r)
+}
+
+fn word_of_sum(n: u32) -> WordOr
+    ensures { λ w. ⌜ w ≡ wordOfSum n ⌝ }
+{
+    if 65535 < n {
+        WordOr::Place(9)
+    } else {
+        WordOr::Word(clock::encode_timeout(Mclks(n as u16)))
+    }
+}
+
+fn word_of_clocks(clocks: WideMclksOr, r: TimingRegisters) -> WordOr
+    ensures { λ w. ⌜ w ≡ wordOfClocks clocks r ⌝ }
+{
+    match clocks {
+        WideMclksOr::Place(p) => WordOr::Place(p),
+        WideMclksOr::Value(n) => { word_of_sum(clock::cut_mclks(n).0 as u32 + pre_share(r) as u32) }
+    }
+}
+
+fn word_within(r: TimingRegisters, budget: Microseconds, used: Microseconds) -> WordOr
+    ensures { λ w. ⌜ w ≡ wordWithin r budget used ⌝ }
+{
+    if budget.0 < used.0 {
+        WordOr::NoTime
+    } else {
+        let left = Microseconds(budget.0 - used.0);
+        word_of_clocks(
+            clock::timeout_microseconds_to_mclks(left, final_period(r)),
+            r,
+        )
+    }
+}
+
+fn word_after(place: PlaceOr, r: TimingRegisters, budget: Microseconds, dss: DssTerm) -> WordOr
+    ensures { λ w. ⌜ w ≡ wordAfter place r budget dss ⌝ }
+{
+    match place {
+        PlaceOr::Place(p) => WordOr::Place(p),
+        PlaceOr::Clear => word_within(r, budget, used_sum(r, dss)),
+    }
+}
+
+// Call 9 with this budget, once it is known to be 20,000 or more: the first place, no time left
+// for the final range, or the word for 0x71.
+pub fn final_range_word(r: TimingRegisters, budget: Microseconds, dss: DssTerm) -> WordOr
+    ensures { λ w. ⌜ w ≡ finalRangeWord r budget dss ⌝ }
+{
+    word_after(first_place(r, 6), r, budget, dss)
+}

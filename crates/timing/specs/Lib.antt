@@ -1,0 +1,3 @@
+pub mod Registers
+pub mod Timeouts
+pub mod Places
