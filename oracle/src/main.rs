@@ -1,4 +1,5 @@
-//! Writes stdin and stdout of the program replay, with the Rust's answers, into the folder given as the argument.
+//! Writes stdin and stdout of the program replay, with the Rust's answers, into a folder: the fixed lists, or with a
+//! seed lists with other pseudo-random cases.
 
 mod budget;
 mod budget_cases;
@@ -14,7 +15,11 @@ mod threshold;
 use std::path::PathBuf;
 
 fn main() -> std::io::Result<()> {
-    let folder = PathBuf::from(std::env::args().nth(1).expect("usage: generate FOLDER"));
+    let mut arguments = std::env::args().skip(1);
+    let folder = PathBuf::from(arguments.next().expect("usage: generate FOLDER [SEED]"));
+    if let Some(seed) = arguments.next() {
+        numbers::SEED.set(seed.parse().expect("a seed is a number")).expect("set once");
+    }
     place::install();
     let lists = [clock::list(), spad::list(), rate::list(), threshold::list(), budget::list()];
     list::write(&lists, &folder)

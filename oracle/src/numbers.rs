@@ -1,10 +1,17 @@
-//! Pseudo-random numbers (splitmix64) from a fixed seed, so that every run makes the same lists.
+//! Pseudo-random numbers (splitmix64). Without a seed of its own every run makes the same lists.
+
+use std::sync::OnceLock;
+
+/// 0 for the fixed lists; any other number makes other pseudo-random cases.
+pub static SEED: OnceLock<u64> = OnceLock::new();
 
 pub struct Numbers(u64);
 
 impl Numbers {
-    pub fn new(seed: u64) -> Self {
-        Numbers(seed)
+    /// The numbers of one list.
+    pub fn new(list: u64) -> Self {
+        let seed = SEED.get().copied().unwrap_or(0);
+        Numbers(seed.wrapping_mul(0xD134_2543_DE82_EF95).wrapping_add(list))
     }
 
     pub fn next(&mut self) -> u64 {

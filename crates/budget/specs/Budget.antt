@@ -30,7 +30,7 @@ wordOfSum n = cond (ltb 65535 n) (WordOr.Place 9) (WordOr.Word (encodeTimeout (r
 -- 01: "Clocks are cut to 16 bits, then, while pre-range is on, pre is added"
 abbrev pub wordOfClocks : WideMclksOr → TimingRegisters → WordOr
 wordOfClocks (WideMclksOr.Place p) r = WordOr.Place p
-wordOfClocks (WideMclksOr.Value n) r = wordOfSum (cutMclks n .0 + preShare r)
+wordOfClocks (WideMclksOr.Value n) r = wordOfSum (cutMclks n .0 + preShare r .0)
 
 -- 01: "call 9, no time left for final range" is answered 1, before places 7 to 9
 unfoldable pub wordWithin : TimingRegisters → Microseconds → Microseconds → WordOr

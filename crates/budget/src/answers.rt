@@ -46,7 +46,9 @@ fn word_of_clocks(clocks: WideMclksOr, r: TimingRegisters) -> WordOr
 {
     match clocks {
         WideMclksOr::Place(p) => WordOr::Place(p),
-        WideMclksOr::Value(n) => { word_of_sum(clock::cut_mclks(n).0 as u32 + pre_share(r) as u32) }
+        WideMclksOr::Value(n) => {
+            word_of_sum(clock::cut_mclks(n).0 as u32 + pre_share(r).0 as u32)
+        }
     }
 }
 

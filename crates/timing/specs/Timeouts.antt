@@ -1,6 +1,6 @@
 -- lib.rs: get_sequence_step_timeouts, figure by figure. Where a figure's own arithmetic has a place its value here is 0: nothing uses it, since the place comes first.
 use mathlib.Core.Bool.{cond}
-use Prim.Native.Nat.{ℕ, _+_, _-_}
+use Prim.Native.Nat.{_+_, _-_}
 use Rattle.clock.specs.declared.Mclks.{Mclks}
 use Rattle.clock.specs.declared.Pclks.{Pclks}
 use Rattle.clock.specs.declared.Microseconds.{Microseconds}
@@ -32,14 +32,14 @@ unfoldable pub wholeClocks : TimingRegisters → Mclks
 wholeClocks r = mclksIn (decodeTimeout (r .finaltimeout))
 
 -- what pre-range takes while it is on
-unfoldable pub preShare : TimingRegisters → ℕ
+unfoldable pub preShare : TimingRegisters → Mclks
 unfolding preClocks
-preShare r = cond (stepsOf (r .sequence) .prerange) (preClocks r .0) 0
+preShare r = record { 0 = cond (stepsOf (r .sequence) .prerange) (preClocks r .0) 0 }
 
 -- lib.rs 662: while pre-range is on, its clocks are taken off the register's
 unfoldable pub finalClocks : TimingRegisters → Mclks
 unfolding wholeClocks preShare
-finalClocks r = record { 0 = wholeClocks r .0 - preShare r }
+finalClocks r = record { 0 = wholeClocks r .0 - preShare r .0 }
 
 unfoldable pub prePeriod : TimingRegisters → Pclks
 prePeriod r = pclksIn (decodeVcsel (r .preperiod))

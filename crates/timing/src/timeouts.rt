@@ -58,10 +58,10 @@ fn when_on(on: bool, n: u16) -> u16
     if on { n } else { 0 }
 }
 
-pub fn pre_share(r: TimingRegisters) -> u16
-    ensures { λ n. ⌜ n ≡ preShare r ⌝ }
+pub fn pre_share(r: TimingRegisters) -> Mclks
+    ensures { λ m. ⌜ m ≡ preShare r ⌝ }
 {
-    when_on(sequence_steps(r.sequence).prerange, pre_clocks(r).0)
+    Mclks(when_on(sequence_steps(r.sequence).prerange, pre_clocks(r).0))
 }
 
 fn less(a: u16, b: u16) -> u16
@@ -73,7 +73,7 @@ fn less(a: u16, b: u16) -> u16
 pub fn final_clocks(r: TimingRegisters) -> Mclks
     ensures { λ m. ⌜ m ≡ finalClocks r ⌝ }
 {
-    Mclks(less(whole_clocks(r).0, pre_share(r)))
+    Mclks(less(whole_clocks(r).0, pre_share(r).0))
 }
 
 pub fn pre_period(r: TimingRegisters) -> Pclks

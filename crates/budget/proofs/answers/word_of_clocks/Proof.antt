@@ -32,11 +32,11 @@ returns c = simp (c .before .clocks .given .1)
 
 returns-2 : tie.Need-returns-2
 returns-2 c =
-    let cut = c .before .before .before in
+    let cut = c .before .before .before .before in
     simp (
       cut .before .before .clocks2 .given .1,
       c .word-of-sum .ensures,
-      c .before .pre-share .ensures,
+      c .before .before .pre-share .ensures,
       cut .cut-mclks .ensures,
     )
 
