@@ -1,9 +1,10 @@
 -- The shift over any width w: a number added to itself in w bits is shifted once more, so repeated wrapping doubling is the shift (`doubling-shifts`).
-use mathlib.Core.Path.{_≡_, sym, ap, _∙_, subst}
-use Prim.Native.Nat.{ℕ, zero, suc, _+_, _*_, _/_, _%_, _^_, _<_}
-use native.Mathlib.Nat.{add-mod, mod-eq-of-lt, mod-lt, mul-one, mul-assoc, mul-comm, pow-succ'}
+use mathlib.Core.Path.{_≡_, sym, ap, _∙_}
+use Prim.Native.Nat.{ℕ, zero, suc, _+_, _*_, _%_, _^_, _<_}
+use native.Mathlib.Nat.{add-mod, mod-eq-of-lt, mod-lt, mul-mod-left, mul-div-cancel, add-zero, mul-one, mul-assoc, mul-comm, pow-succ'}
 use native.Mathlib.Numerals.{add-one}
 use native.Mathlib.Omega.{arith}
+use lib.Dec.{lit<}
 use lib.Pow.{pow-pos, pow-add}
 use lib.Arith.{mod-mul}
 use Rattle.clock.specs.Clock.{shifted}
@@ -36,19 +37,7 @@ doubling-shifts w x (suc k) h = rw (doubling-shifts w x k h) (shifted-more w x k
 
 -- where x leaves the top bit free, 1 can be added after any shift: what is shifted is even
 even : (a p : ℕ) → 0 < p → a * 2 % (p * 2) ≡ a % p * 2
-even a p h = mod-mul (a * 2) h two ∙ ap (λ (n : ℕ). n % p * 2 + a * 2 % 2) (halves a) ∙ (ap (λ (n : ℕ). a % p * 2 + n) (none a) ∙ plus (a % p * 2))
-  where
-    two : 0 < 2
-    two = omega arith
-
-    halves : (n : ℕ) → n * 2 / 2 ≡ n
-    halves n = omega arith
-
-    none : (n : ℕ) → n * 2 % 2 ≡ 0
-    none n = omega arith
-
-    plus : (n : ℕ) → n + 0 ≡ n
-    plus n = omega arith
+even a p h = rw (mod-mul (a * 2) h (lit< tt), mul-div-cancel a (lit< tt), mul-mod-left a 2, add-zero)
 
 under : (r p : ℕ) → r < p → r * 2 + 1 < p * 2
 under r p h = omega arith
@@ -63,10 +52,7 @@ top : (w : ℕ) → 2 ^ suc w ≡ 2 ^ w * 2
 top w = pow-succ' 2 w ∙ mul-comm 2 (2 ^ w)
 
 pub room : (w x k : ℕ) → x < 2 ^ w → shifted (suc w) x k + 1 < 2 ^ suc w
-room w x zero h =
-    subst (λ (m : ℕ). x * 2 ^ 0 % m + 1 < m) (sym (top w))
-    (subst (λ (n : ℕ). n + 1 < 2 ^ w * 2) (sym (ap (λ (n : ℕ). n % (2 ^ w * 2)) (mul-one x) ∙ mod-eq-of-lt (wider x (2 ^ w) h))) (small x (2 ^ w) h))
+room w x zero h = rw (top w, mul-one x, mod-eq-of-lt (wider x (2 ^ w) h)) (small x (2 ^ w) h)
 room w x (suc k) h =
-    subst (λ (m : ℕ). x * 2 ^ suc k % m + 1 < m) (sym (top w))
-    (subst (λ (n : ℕ). n + 1 < 2 ^ w * 2) (sym (ap (λ (n : ℕ). n % (2 ^ w * 2)) (ap (λ (p : ℕ). x * p) (top k) ∙ sym (mul-assoc x (2 ^ k) 2)) ∙ even (x * 2 ^ k) (2 ^ w) (pow-pos w)))
-    (under (x * 2 ^ k % 2 ^ w) (2 ^ w) (mod-lt (x * 2 ^ k) (pow-pos w))))
+    rw (top w, top k, ← mul-assoc x (2 ^ k) 2, even (x * 2 ^ k) (2 ^ w) (pow-pos w))
+    (under (x * 2 ^ k % 2 ^ w) (2 ^ w) (mod-lt (x * 2 ^ k) (pow-pos w)))
