@@ -1,15 +1,15 @@
 -- The bench values hold: each definition is computed at its case.
 use mathlib.Core.Path.{refl}
-use Rattle.clock.specs.Clock.{decodeTimeout, halvedIn, halved, encodeTimeout, decodeVcsel, microsecondsOf, mclksOf}
+use Rattle.clock.specs.Clock.{decodeTimeout, halvedIn, halved, encodeTimeout, decodeVcselPeriod, microsecondsOf, mclksOf}
 use Rattle.spad.specs.Map.{bitsOf, byteOf, mapBits, mapBytes, keep, selected}
 use Rattle.timing.specs.Timeouts.{preClocks, wholeClocks, preShare, finalClocks, prePeriod, msrcClocks, finalPeriod, msrcTime, preTime, finalTime}
 use Rattle.timing.specs.Places.{timeoutPlace, periodPlace, lessPlace, entriesOf, firstOf, firstPlace}
-use Rattle.budget.specs.Sums.{dssPart, stepSum, budgetSum, usedSum}
-use Rattle.budget.specs.Budget.{timingBudget, wordOfSum, wordWithin, finalRangeWord}
+use Rattle.budget.specs.Sums.{dssOrMsrc, stepSum, budgetSum, usedSum}
+use Rattle.budget.specs.Budget.{measurementTimingBudget, wordOfSum, wordWithin, finalRangeWord}
 use Rattle.bench.specs.Bench.{BenchValues}
 
 pub bench : BenchValues
-unfolding decodeTimeout halvedIn halved encodeTimeout decodeVcsel microsecondsOf mclksOf bitsOf byteOf mapBits mapBytes keep selected preClocks wholeClocks preShare finalClocks prePeriod msrcClocks finalPeriod msrcTime preTime finalTime timeoutPlace periodPlace lessPlace entriesOf firstOf firstPlace dssPart stepSum budgetSum usedSum timingBudget wordOfSum wordWithin finalRangeWord
+unfolding decodeTimeout halvedIn halved encodeTimeout decodeVcselPeriod microsecondsOf mclksOf bitsOf byteOf mapBits mapBytes keep selected preClocks wholeClocks preShare finalClocks prePeriod msrcClocks finalPeriod msrcTime preTime finalTime timeoutPlace periodPlace lessPlace entriesOf firstOf firstPlace dssOrMsrc stepSum budgetSum usedSum measurementTimingBudget wordOfSum wordWithin finalRangeWord
 bench = record {
   decode-0000 = refl;
   decode-0FFF = refl;

@@ -6,13 +6,13 @@ use Prim.Native.Nat.{ℕ}
 use Rattle.clock.specs.declared.MclksOr.{MclksOr}
 use Rattle.clock.specs.declared.PclksOr.{PclksOr}
 use Rattle.clock.specs.declared.MicrosecondsOr.{MicrosecondsOr}
-use Rattle.clock.specs.Clock.{decodeTimeout, encodeTimeout, decodeVcsel, macroPeriod}
+use Rattle.clock.specs.Clock.{decodeTimeout, encodeTimeout, decodeVcselPeriod, calcMacroPeriod}
 use Rattle.spad.specs.Map.{selected}
 use Rattle.timing.specs.declared.TimingRegisters.{TimingRegisters}
 use Rattle.budget.specs.declared.DssTerm.{DssTerm}
 use Rattle.budget.specs.declared.WordOr.{WordOr}
 use Rattle.timing.specs.Registers.{registersOf}
-use Rattle.budget.specs.Budget.{timingBudget, finalRangeWord}
+use Rattle.budget.specs.Budget.{measurementTimingBudget, finalRangeWord}
 
 -- "map FF six times"
 abbrev pub allGood : List ℕ
@@ -31,11 +31,11 @@ pub record BenchValues : Type 0 where
   pub encode-258 : encodeTimeout (record { 0 = 258 }) ≡ 0x0180
   pub decode-0180 : decodeTimeout 0x0180 ≡ MclksOr.Value (record { 0 = 257 })
   pub encode-65535 : encodeTimeout (record { 0 = 65535 }) ≡ 0x08FF
-  pub vcsel-6 : decodeVcsel 6 ≡ PclksOr.Value (record { 0 = 14 })
-  pub vcsel-127 : decodeVcsel 127 ≡ PclksOr.Value (record { 0 = 0 })
-  pub vcsel-128 : decodeVcsel 128 ≡ PclksOr.Value (record { 0 = 2 })
-  pub macro-14 : macroPeriod (record { 0 = 14 }) ≡ record { 0 = 53384 }
+  pub vcsel-6 : decodeVcselPeriod 6 ≡ PclksOr.Value (record { 0 = 14 })
+  pub vcsel-127 : decodeVcselPeriod 127 ≡ PclksOr.Value (record { 0 = 0 })
+  pub vcsel-128 : decodeVcselPeriod 128 ≡ PclksOr.Value (record { 0 = 2 })
+  pub macro-14 : calcMacroPeriod (record { 0 = 14 }) ≡ record { 0 = 53384 }
   pub map-5 : selected allGood 5 true ≡ 0x00 ∷ 0xF0 ∷ 0x01 ∷ 0x00 ∷ 0x00 ∷ 0x00 ∷ []
   pub map-0 : selected allGood 0 true ≡ 0x00 ∷ 0x00 ∷ 0x00 ∷ 0x00 ∷ 0x00 ∷ 0x00 ∷ []
-  pub call-15 : timingBudget reads ≡ MicrosecondsOr.Value (record { 0 = 31326 })
+  pub call-15 : measurementTimingBudget reads ≡ MicrosecondsOr.Value (record { 0 = 31326 })
   pub call-9 : finalRangeWord reads (record { 0 = 33000 }) DssTerm.Once ≡ WordOr.Word 0x0292

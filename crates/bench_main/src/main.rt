@@ -3,7 +3,7 @@
 use libc::STDOUT_FILENO;
 use rate::RateWord;
 use threshold::Millimeters;
-use threshold::Thresholds;
+use threshold::ThresholdCheck;
 
 fn text(bytes: &[u8]) {
     io::write_all(STDOUT_FILENO, bytes);
@@ -20,7 +20,7 @@ fn writes(word: u16) {
 
 fn rate_line(name: &[u8], bits: u32) {
     text(name);
-    match rate::rate_word(bits) {
+    match rate::signal_rate_limit_word(bits) {
         RateWord::Word(word) => writes(word),
         RateWord::Refused => text(b" refused"),
     }
@@ -30,8 +30,8 @@ fn rate_line(name: &[u8], bits: u32) {
 fn threshold_line(mm: u16) {
     number(mm);
     match threshold::check_thresholds(Millimeters(0), Millimeters(mm)) {
-        Thresholds::Valid => text(b" accepted\n"),
-        Thresholds::InvalidArgument => text(b" refused\n"),
+        ThresholdCheck::Valid => text(b" accepted\n"),
+        ThresholdCheck::InvalidArgument => text(b" refused\n"),
     }
 }
 

@@ -9,12 +9,12 @@ use Rattle.clock.specs.Clock.{microsecondsOf}
 use Rattle.clock.specs.declared.Mclks.{Mclks}
 use Rattle.clock.specs.declared.Nanoseconds.{Nanoseconds}
 use Rattle.clock.specs.declared.MicrosecondsOr.{MicrosecondsOr}
-use Rattle.timing.specs.declared.Steps.{Steps}
+use Rattle.timing.specs.declared.SeqStepEnables.{SeqStepEnables}
 use Rattle.timing.specs.declared.TimingRegisters.{TimingRegisters}
-use Rattle.timing.specs.Registers.{stepsOf}
+use Rattle.timing.specs.Registers.{sequenceStepEnables, whenOn}
 use Rattle.timing.specs.Timeouts.{timeIn, msrcTime, preTime, finalTime}
 use Rattle.budget.specs.declared.DssTerm.{DssTerm}
-use Rattle.budget.specs.Sums.{dssOf, whenOn, dssPart, stepSum, budgetSum, usedSum}
+use Rattle.budget.specs.Sums.{dssOf, dssOrMsrc, stepSum, budgetSum, usedSum}
 
 -- ---- what each step adds
 pub when-le : (on : Bool) (n : ℕ) → whenOn on n ≤ n
@@ -25,8 +25,8 @@ dss-le : (dss : DssTerm) (m : ℕ) → dssOf dss m ≤ 2 * m + 1380
 dss-le DssTerm.Twice m = omega arith
 dss-le DssTerm.Once m = omega arith
 
-pub part-le : (on : Steps) (dss : DssTerm) (m : ℕ) → dssPart on dss m ≤ 2 * m + 1380
-unfolding dssPart
+pub part-le : (on : SeqStepEnables) (dss : DssTerm) (m : ℕ) → dssOrMsrc on dss m ≤ 2 * m + 1380
+unfolding dssOrMsrc
 part-le on dss m = go (on .dss)
   where
     go : (b : Bool) → cond b (dssOf dss m) (whenOn (on .msrc) (m + 660)) ≤ 2 * m + 1380
@@ -34,7 +34,7 @@ part-le on dss m = go (on .dss)
     go false = omega (arith, when-le (on .msrc) (m + 660))
 
 sum-le :
-    (on : Steps) (start : ℕ) (dss : DssTerm) (m p l : ℕ) → stepSum on start dss m p l ≤ start + 960 + (m + 590) + (2 * m + 1380) + (p + 660) + l
+    (on : SeqStepEnables) (start : ℕ) (dss : DssTerm) (m p l : ℕ) → stepSum on start dss m p l ≤ start + 960 + (m + 590) + (2 * m + 1380) + (p + 660) + l
 unfolding stepSum
 sum-le on start dss m p l =
     omega (
@@ -79,7 +79,7 @@ module _ (r : TimingRegisters) where
         msrc-le,
         pre-le,
         final-le,
-        sum-le (stepsOf (r .sequence)) 1910 DssTerm.Twice (timeIn (msrcTime r) .0) (timeIn (preTime r) .0) (timeIn (finalTime r) .0 + 550),
+        sum-le (sequenceStepEnables (r .sequence)) 1910 DssTerm.Twice (timeIn (msrcTime r) .0) (timeIn (preTime r) .0) (timeIn (finalTime r) .0 + 550),
       )
 
   pub used-fits : (dss : DssTerm) → usedSum r dss .0 < 2 ^ 32
@@ -89,5 +89,5 @@ module _ (r : TimingRegisters) where
         arith,
         msrc-le,
         pre-le,
-        sum-le (stepsOf (r .sequence)) 1320 dss (timeIn (msrcTime r) .0) (timeIn (preTime r) .0) 550,
+        sum-le (sequenceStepEnables (r .sequence)) 1320 dss (timeIn (msrcTime r) .0) (timeIn (preTime r) .0) 550,
       )

@@ -1,6 +1,7 @@
 // Call 15's value and call 9's word: the first place of the replies, or what the sums give.
 ghost use mathlib.Core.Path.{_≡_};
-ghost use Rattle.budget.specs.Budget.{budgetAfter, timingBudget, wordOfSum, wordOfClocks, wordWithin, wordAfter, finalRangeWord};
+ghost use Rattle.budget.specs.Budget.{budgetAfter, measurementTimingBudget};
+ghost use Rattle.budget.specs.Budget.{wordOfSum, withPre, wordOfClocks, wordWithin, wordAfter, finalRangeWord};
 use crate::DssTerm;
 use crate::WordOr;
 use crate::sums::budget_sum;
@@ -8,6 +9,7 @@ use crate::sums::used_sum;
 use clock::Mclks;
 use clock::Microseconds;
 use clock::MicrosecondsOr;
+use clock::WideMclks;
 use clock::WideMclksOr;
 use timing::PlaceOr;
 use timing::TimingRegisters;
@@ -25,8 +27,8 @@ fn budget_after(place: PlaceOr, r: TimingRegisters) -> MicrosecondsOr
 }
 
 // Call 15: the first place, or the measurement timing budget that the replies amount to.
-pub fn timing_budget(r: TimingRegisters) -> MicrosecondsOr
-    ensures { λ t. ⌜ t ≡ timingBudget r ⌝ }
+pub fn measurement_timing_budget(r: TimingRegisters) -> MicrosecondsOr
+    ensures { λ t. ⌜ t ≡ measurementTimingBudget r ⌝ }
 {
     budget_after(first_place(r, 6), r)
 }
@@ -41,14 +43,19 @@ fn word_of_sum(n: u32) -> WordOr
     }
 }
 
+// The clocks are cut to 16 bits before pre-range's are added.
+fn with_pre(clocks: WideMclks, pre: Mclks) -> u32
+    ensures { λ n. ⌜ n ≡ withPre clocks pre ⌝ }
+{
+    clock::cut_mclks(clocks).0 as u32 + pre.0 as u32
+}
+
 fn word_of_clocks(clocks: WideMclksOr, r: TimingRegisters) -> WordOr
     ensures { λ w. ⌜ w ≡ wordOfClocks clocks r ⌝ }
 {
     match clocks {
         WideMclksOr::Place(p) => WordOr::Place(p),
-        WideMclksOr::Value(n) => {
-            word_of_sum(clock::cut_mclks(n).0 as u32 + pre_share(r).0 as u32)
-        }
+        WideMclksOr::Value(n) => word_of_sum(with_pre(n, pre_share(r))),
     }
 }
 
@@ -75,8 +82,8 @@ fn word_after(place: PlaceOr, r: TimingRegisters, budget: Microseconds, dss: Dss
     }
 }
 
-// Call 9 with this budget, once it is known to be 20,000 or more: the first place, no time left
-// for the final range, or the word for 0x71.
+// Call 9 after its test of 20,000: the first place, no time left for the final range, or the word
+// for 0x71.
 pub fn final_range_word(r: TimingRegisters, budget: Microseconds, dss: DssTerm) -> WordOr
     ensures { λ w. ⌜ w ≡ finalRangeWord r budget dss ⌝ }
 {

@@ -4,7 +4,7 @@ mod answers;
 mod sums;
 
 pub use answers::final_range_word;
-pub use answers::timing_budget;
+pub use answers::measurement_timing_budget;
 
 // How often the DSS overhead is counted: twice by call 15, once by call 9.
 pub enum DssTerm {

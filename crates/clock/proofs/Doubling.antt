@@ -7,9 +7,9 @@ use native.Mathlib.Omega.{arith}
 use lib.Dec.{lit<}
 use lib.Pow.{pow-pos, pow-add}
 use lib.Arith.{mod-mul}
-use Rattle.clock.specs.Clock.{shifted}
+use Rattle.clock.specs.Clock.{shifted, doubledIn}
 
-pub shifted-none : (w x : ℕ) → x < 2 ^ w → x ≡ shifted w x 0
+shifted-none : (w x : ℕ) → x < 2 ^ w → x ≡ shifted w x 0
 shifted-none w x h = sym (ap (λ (k : ℕ). k % 2 ^ w) (mul-one x) ∙ mod-eq-of-lt h)
 
 twice : (a : ℕ) → a + a ≡ a * 2
@@ -18,17 +18,8 @@ twice a = omega arith
 one-more : (x k : ℕ) → x * 2 ^ k * 2 ≡ x * 2 ^ (k + 1)
 one-more x k = mul-assoc x (2 ^ k) 2 ∙ ap (λ (p : ℕ). x * p) (sym (pow-add 2 k 1))
 
--- a number added to itself, with the top bit dropped
-pub doubled-once : (w x : ℕ) → (x + x) % 2 ^ w ≡ shifted w x 1
-doubled-once w x = ap (λ (n : ℕ). n % 2 ^ w) (twice x)
-
-pub shifted-more : (w x k : ℕ) → (shifted w x k + shifted w x k) % 2 ^ w ≡ shifted w x (k + 1)
+shifted-more : (w x k : ℕ) → (shifted w x k + shifted w x k) % 2 ^ w ≡ shifted w x (k + 1)
 shifted-more w x k = sym (add-mod (x * 2 ^ k) (x * 2 ^ k) (2 ^ w)) ∙ ap (λ (n : ℕ). n % 2 ^ w) (twice (x * 2 ^ k) ∙ one-more x k)
-
--- x added to itself k times over, each time in w bits
-unfoldable pub doubledIn : ℕ → ℕ → ℕ → ℕ
-doubledIn w x zero = x
-doubledIn w x (suc k) = (doubledIn w x k + doubledIn w x k) % 2 ^ w
 
 pub doubling-shifts : (w x k : ℕ) → x < 2 ^ w → doubledIn w x k ≡ shifted w x k
 unfolding doubledIn

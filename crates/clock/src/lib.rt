@@ -1,7 +1,10 @@
 // The source's clock arithmetic. Each clock unit is a type of its own, so that a count of one
 // clock cannot be handed over as another. Where the Rust panics, the answer is the place.
 ghost use mathlib.Core.Path.{_≡_};
-ghost use Rattle.clock.specs.Clock.{shifted, decodeTimeout, encodeTimeout, halved, decodeVcsel, encodeVcsel, macroPeriod, toMicroseconds, toMclks, cutMclks};
+ghost use Prim.Native.Nat.{_+_, _%_, _^_};
+ghost use Rattle.clock.specs.Clock.{shifted, decodeTimeout, halved, encodeTimeout};
+ghost use Rattle.clock.specs.Clock.{decodeVcselPeriod, encodeVcselPeriod, calcMacroPeriod};
+ghost use Rattle.clock.specs.Clock.{timeoutMclksToMicroseconds, timeoutMicrosecondsToMclks, cutMclks};
 
 // Macro clocks.
 pub struct Mclks(pub u16);
@@ -42,14 +45,21 @@ pub enum MicrosecondsOr {
     Place(u8),
 }
 
-// x doubled `times` times in 16 bits: bits that leave the top are dropped.
+// v doubled in 16 bits: a bit that leaves the top is dropped.
+fn twice(v: u16) -> u16
+    ensures { λ r. ⌜ r ≡ (v + v) % 2 ^ 16 ⌝ }
+{
+    std::num::wrapping_add_u16(v, v)
+}
+
+// x doubled `times` times.
 fn doubled(x: u16, times: u16) -> u16
     ensures { λ r. ⌜ r ≡ shifted 16 x times ⌝ }
 {
     let mut v = x;
     let mut i = 0;
     while i < times {
-        v = std::num::wrapping_add_u16(v, v);
+        v = twice(v);
         i += 1;
     }
     v
@@ -83,7 +93,7 @@ pub fn encode_timeout(timeout: Mclks) -> u16
 
 // ((register value + 1) << 1) in a byte.
 pub fn decode_vcsel_period(register_value: u8) -> PclksOr
-    ensures { λ r. ⌜ r ≡ decodeVcsel «register_value» ⌝ }
+    ensures { λ r. ⌜ r ≡ decodeVcselPeriod «register_value» ⌝ }
 {
     if register_value == 255 {
         PclksOr::Place(4)
@@ -95,7 +105,7 @@ pub fn decode_vcsel_period(register_value: u8) -> PclksOr
 
 // (period >> 1) - 1.
 pub fn encode_vcsel_period(period: Pclks) -> VcselByteOr
-    ensures { λ r. ⌜ r ≡ encodeVcsel period ⌝ }
+    ensures { λ r. ⌜ r ≡ encodeVcselPeriod period ⌝ }
 {
     let p = period.0;
     if p <= 1 {
@@ -106,14 +116,14 @@ pub fn encode_vcsel_period(period: Pclks) -> VcselByteOr
 }
 
 pub fn calc_macro_period(period: Pclks) -> Nanoseconds
-    ensures { λ r. ⌜ r ≡ macroPeriod period ⌝ }
+    ensures { λ r. ⌜ r ≡ calcMacroPeriod period ⌝ }
 {
     Nanoseconds((2304 * (period.0 as u32) * 1655 + 500) / 1000)
 }
 
 // The sum is made in 64 bits, where it always fits, and held against 32.
 pub fn timeout_mclks_to_microseconds(timeout: Mclks, period: Pclks) -> MicrosecondsOr
-    ensures { λ r. ⌜ r ≡ toMicroseconds timeout period ⌝ }
+    ensures { λ r. ⌜ r ≡ timeoutMclksToMicroseconds timeout period ⌝ }
 {
     let ns = calc_macro_period(period).0 as u64;
     let sum = (timeout.0 as u64) * ns + ns / 2;
@@ -125,7 +135,7 @@ pub fn timeout_mclks_to_microseconds(timeout: Mclks, period: Pclks) -> Microseco
 }
 
 pub fn timeout_microseconds_to_mclks(timeout: Microseconds, period: Pclks) -> WideMclksOr
-    ensures { λ r. ⌜ r ≡ toMclks timeout period ⌝ }
+    ensures { λ r. ⌜ r ≡ timeoutMicrosecondsToMclks timeout period ⌝ }
 {
     let ns = calc_macro_period(period).0 as u64;
     let scaled = (timeout.0 as u64) * 1000 + ns / 2;

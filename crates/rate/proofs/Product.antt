@@ -39,7 +39,8 @@ exact s n d q k D small v l =
     let few : q * 2 ^ (k + 7) < 65536 * 2 ^ 149 = fewer (n * 128) d (q * 2 ^ (k + 7)) (2 ^ 149) 65536 (pow-pos 149) v7 l in
     round-exact binary32 s (n * 128) d q (k + 7) D small (lt-of-lt-of-le few (lit≤ tt)) v7
 
-cast : (s : Bool) (n d q k : ℕ) → 0 < d → q < 2 ^ 24 → n * 2 ^ 149 ≡ q * 2 ^ k * d → n * 128 < 65536 * d → cond s 0 (min (n * 128 / d) 65535) ≡ n * 128 / d
+cast : (s : Bool) (n d q k : ℕ) → 0 < d → q < 2 ^ 24 → n * 2 ^ 149 ≡ q * 2 ^ k * d → n * 128 < 65536 * d
+    → cond s 0 (min (n * 128 / d) 65535) ≡ n * 128 / d
     → toUnsigned 16 (round binary32 s (n * 128) d) ≡ n * 128 / d
 cast s n d q k D small v l whole = unsigned (round binary32 s (n * 128) d) s (n * 128) d D (exact s n d q k D small v l) ∙ whole
 

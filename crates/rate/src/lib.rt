@@ -1,7 +1,7 @@
 // The number of call 14: the signal rate limit, an `f32` in MCPS given by its bits, as the register's Q9.7 word.
 ghost use mathlib.Core.Path.{_≡_};
 ghost use lib.Ieee.{binary32, ofBits, toUnsigned};
-ghost use Rattle.rate.specs.Rate.{rateWord};
+ghost use Rattle.rate.specs.Rate.{signalRateLimitWord};
 
 // The word to write, or the limit is refused (answer 1).
 pub enum RateWord {
@@ -32,8 +32,8 @@ fn whole_part(bits: u32) -> u16
 }
 
 // The word of a limit whose float has these bits. A NaN's pattern is refused before a float is made of it.
-pub fn rate_word(bits: u32) -> RateWord
-    ensures { λ r. ⌜ r ≡ rateWord bits ⌝ }
+pub fn signal_rate_limit_word(bits: u32) -> RateWord
+    ensures { λ r. ⌜ r ≡ signalRateLimitWord bits ⌝ }
 {
     if 0x7f80_0000 < bits % 0x8000_0000 {
         return RateWord::Refused;

@@ -63,14 +63,14 @@ fn first_place(r: TimingRegisters) {
 fn answers(r: TimingRegisters, budget: u32) {
     print::number(budget);
     print::space();
-    clocks::microseconds(budget::timing_budget(r));
+    clocks::microseconds(budget::measurement_timing_budget(r));
     print::space();
     word_or(budget::final_range_word(r, Microseconds(budget), DssTerm::Once));
     print::space();
     first_place(r);
 }
 
-pub fn timing_budget(r: [u8; 13]) {
+pub fn measurement_timing_budget(r: [u8; 13]) {
     let bytes = [r[1], r[2], r[3], r[4], r[5], r[6], r[7], r[8]];
     print::text(b"budget ");
     replies(bytes);

@@ -18,9 +18,9 @@ fn line(r: [u8; 13]) {
         0 => clocks::to_microseconds(r),
         1 => clocks::to_mclks(r),
         2 => spads::select_spads(r),
-        3 => rates::rate_word(r),
+        3 => rates::signal_rate_limit_word(r),
         4 => thresholds::check_thresholds(r),
-        5 => budgets::timing_budget(r),
+        5 => budgets::measurement_timing_budget(r),
         _ => print::text(b"unknown kind"),
     }
     print::line_end();

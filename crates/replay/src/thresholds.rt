@@ -3,7 +3,7 @@ use crate::print;
 use crate::record;
 use threshold::Millimeters;
 use threshold::RawThreshold;
-use threshold::Thresholds;
+use threshold::ThresholdCheck;
 
 fn encoded(mm: u16) {
     print::word(threshold::encode_threshold(Millimeters(mm)).0);
@@ -12,8 +12,8 @@ fn encoded(mm: u16) {
 // The word of a limit that is both low and high.
 pub fn encode_threshold(mm: u16) {
     match threshold::check_thresholds(Millimeters(mm), Millimeters(mm)) {
-        Thresholds::Valid => encoded(mm),
-        Thresholds::InvalidArgument => print::text(b"R"),
+        ThresholdCheck::Valid => encoded(mm),
+        ThresholdCheck::InvalidArgument => print::text(b"R"),
     }
 }
 
@@ -34,8 +34,8 @@ fn window(low: u16, high: u16) {
     print::word(high);
     print::space();
     match threshold::check_thresholds(Millimeters(low), Millimeters(high)) {
-        Thresholds::Valid => both_encoded(low, high),
-        Thresholds::InvalidArgument => print::text(b"R"),
+        ThresholdCheck::Valid => both_encoded(low, high),
+        ThresholdCheck::InvalidArgument => print::text(b"R"),
     }
 }
 

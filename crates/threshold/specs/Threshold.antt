@@ -4,8 +4,8 @@ use Prim.Native.Nat.{_*_, _/_, _%_}
 use lib.Dec.{ltb}
 use Rattle.threshold.specs.declared.Millimeters.{Millimeters}
 use Rattle.threshold.specs.declared.RawThreshold.{RawThreshold}
-use Rattle.threshold.specs.declared.Thresholds.{Thresholds}
-use Rattle.threshold.specs.declared.Thresholds.the-variants.{Valid, InvalidArgument}
+use Rattle.threshold.specs.declared.ThresholdCheck.{ThresholdCheck}
+use Rattle.threshold.specs.declared.ThresholdCheck.the-variants.{Valid, InvalidArgument}
 
 -- half the millimetres, in 12 bits. lib.rs: (low_mm >> 1) & 0x0FFF. Above 8190 the bits above the twelfth are dropped
 abbrev pub encodeThreshold : Millimeters → RawThreshold
@@ -16,10 +16,10 @@ abbrev pub decodeThreshold : RawThreshold → Millimeters
 decodeThreshold raw = record { 0 = raw .0 % 4096 * 2 }
 
 -- what the test of the arguments gives
-abbrev pub refuseIf : Bool → Thresholds
+abbrev pub refuseIf : Bool → ThresholdCheck
 refuseIf true = InvalidArgument
 refuseIf false = Valid
 
 -- 01: "call 10, low > high or either > 8190", answer 6
-abbrev pub checkThresholds : Millimeters → Millimeters → Thresholds
+abbrev pub checkThresholds : Millimeters → Millimeters → ThresholdCheck
 checkThresholds low high = refuseIf (ltb (high .0) (low .0) || ltb 8190 (low .0) || ltb 8190 (high .0))

@@ -7,7 +7,7 @@ pub struct Millimeters(pub u16);
 
 pub struct RawThreshold(pub u16);
 
-pub enum Thresholds {
+pub enum ThresholdCheck {
     Valid,
     InvalidArgument,
 }
@@ -26,17 +26,17 @@ pub fn decode_threshold(raw: RawThreshold) -> Millimeters
 }
 
 // The test that call 10 makes before its first transfer; InvalidArgument is answer 6.
-pub fn check_thresholds(low: Millimeters, high: Millimeters) -> Thresholds
+pub fn check_thresholds(low: Millimeters, high: Millimeters) -> ThresholdCheck
     ensures { λ r. ⌜ r ≡ checkThresholds low high ⌝ }
 {
     if low.0 > high.0 {
-        return Thresholds::InvalidArgument;
+        return ThresholdCheck::InvalidArgument;
     }
     if low.0 > 8190 {
-        return Thresholds::InvalidArgument;
+        return ThresholdCheck::InvalidArgument;
     }
     if high.0 > 8190 {
-        return Thresholds::InvalidArgument;
+        return ThresholdCheck::InvalidArgument;
     }
-    Thresholds::Valid
+    ThresholdCheck::Valid
 }

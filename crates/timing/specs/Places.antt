@@ -1,4 +1,5 @@
--- The first place of the six budget replies in the Rust's order, also of the first few of them: a session that waits for the next reply looks again at all that it knows.
+-- The first place of the six budget replies in the Rust's order, also of the first few of them:
+-- a session that waits for the next reply looks again at all that it knows.
 use mathlib.Core.Bool.{Bool, cond}
 use mathlib.Core.List.{List, [], _∷_}
 use Prim.Native.Nat.{ℕ, _+_}
@@ -6,10 +7,10 @@ use lib.Dec.{leb, ltb, eqb}
 use Rattle.clock.specs.declared.MclksOr.{MclksOr}
 use Rattle.clock.specs.declared.PclksOr.{PclksOr}
 use Rattle.clock.specs.declared.MicrosecondsOr.{MicrosecondsOr}
-use Rattle.clock.specs.Clock.{decodeTimeout, decodeVcsel}
+use Rattle.clock.specs.Clock.{decodeTimeout, decodeVcselPeriod}
 use Rattle.timing.specs.declared.TimingRegisters.{TimingRegisters}
 use Rattle.timing.specs.declared.PlaceOr.{PlaceOr}
-use Rattle.timing.specs.Registers.{stepsOf}
+use Rattle.timing.specs.Registers.{sequenceStepEnables, whenOn}
 use Rattle.timing.specs.Timeouts.{preClocks, wholeClocks, msrcTime, preTime, finalTime}
 
 -- the place of an answer, or 0
@@ -29,14 +30,14 @@ unfoldable pub timeoutPlace : ℕ → ℕ
 timeoutPlace word = mclksPlace (decodeTimeout word)
 
 unfoldable pub periodPlace : ℕ → ℕ
-periodPlace byte = pclksPlace (decodeVcsel byte)
+periodPlace byte = pclksPlace (decodeVcselPeriod byte)
 
 -- 01: "Final less than pre while pre-range is on: place 3"
 abbrev pub whenLess : Bool → ℕ → ℕ → ℕ
-whenLess on whole pre = cond on (cond (ltb whole pre) 3 0) 0
+whenLess on whole pre = whenOn on (cond (ltb whole pre) 3 0)
 
 unfoldable pub lessPlace : TimingRegisters → ℕ
-lessPlace r = whenLess (stepsOf (r .sequence) .prerange) (wholeClocks r .0) (preClocks r .0)
+lessPlace r = whenLess (sequenceStepEnables (r .sequence) .prerange) (wholeClocks r .0) (preClocks r .0)
 
 -- 01: "0x46 plus 1 over 255: place 5"
 abbrev pub msrcPlace : ℕ → ℕ
@@ -50,7 +51,8 @@ pub record Entry : Type 0 where
 abbrev pub entry : ℕ → ℕ → Entry
 entry n p = record { needs = n; place = p }
 
--- 01: "Final less than pre [..]: place 3, right after 0x71. 0x46 plus 1 over 255: place 5. Then microseconds for MSRC, pre, final." lib.rs 656 to 688, line by line
+-- 01: "Final less than pre [..]: place 3, right after 0x71. 0x46 plus 1 over 255: place 5. Then microseconds for MSRC, pre, final."
+-- lib.rs 656 to 688, line by line
 unfoldable pub entriesOf : TimingRegisters → List Entry
 entriesOf r =
     entry 2 (timeoutPlace (r .pretimeout))
@@ -83,5 +85,4 @@ placeOr p = cond (eqb p 0) PlaceOr.Clear (PlaceOr.Place p)
 
 -- the first place once the first `known` replies are known
 unfoldable pub firstPlace : TimingRegisters → ℕ → PlaceOr
-unfolding firstOf entriesOf
 firstPlace r known = placeOr (firstOf (seen known (entriesOf r)))

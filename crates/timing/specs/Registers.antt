@@ -1,11 +1,11 @@
 -- The six budget replies and the steps of the sequence.
-use mathlib.Core.Bool.{Bool}
+use mathlib.Core.Bool.{Bool, cond}
 use mathlib.Core.List.{List}
 use Prim.Native.Nat.{ℕ, _+_, _*_, _/_, _%_, _^_}
 use lib.Dec.{eqb}
 use lib.ListN.{getD}
 use Rattle.timing.specs.declared.TimingRegisters.{TimingRegisters}
-use Rattle.timing.specs.declared.Steps.{Steps}
+use Rattle.timing.specs.declared.SeqStepEnables.{SeqStepEnables}
 
 -- 01: "Words are sent high byte first." lib.rs: read_16bit
 abbrev pub wordOf : ℕ → ℕ → ℕ
@@ -27,11 +27,15 @@ abbrev pub bitAt : ℕ → ℕ → Bool
 bitAt k byte = eqb (byte / 2 ^ k % 2) 1
 
 -- lib.rs: get_sequence_step_enables
-abbrev pub stepsOf : ℕ → Steps
-stepsOf sequence = record {
+abbrev pub sequenceStepEnables : ℕ → SeqStepEnables
+sequenceStepEnables sequence = record {
   tcc = bitAt 4 sequence;
   dss = bitAt 3 sequence;
   msrc = bitAt 2 sequence;
   prerange = bitAt 6 sequence;
   finalrange = bitAt 7 sequence;
 }
+
+-- what a step counts while it is on
+abbrev pub whenOn : Bool → ℕ → ℕ
+whenOn on n = cond on n 0

@@ -1,5 +1,5 @@
--- lib.rs: get_sequence_step_timeouts, figure by figure. Where a figure's own arithmetic has a place its value here is 0: nothing uses it, since the place comes first.
-use mathlib.Core.Bool.{cond}
+-- lib.rs: get_sequence_step_timeouts, figure by figure.
+-- Where a figure's own arithmetic has a place its value here is 0: nothing uses it, since the place comes first.
 use Prim.Native.Nat.{_+_, _-_}
 use Rattle.clock.specs.declared.Mclks.{Mclks}
 use Rattle.clock.specs.declared.Pclks.{Pclks}
@@ -7,9 +7,9 @@ use Rattle.clock.specs.declared.Microseconds.{Microseconds}
 use Rattle.clock.specs.declared.MclksOr.{MclksOr}
 use Rattle.clock.specs.declared.PclksOr.{PclksOr}
 use Rattle.clock.specs.declared.MicrosecondsOr.{MicrosecondsOr}
-use Rattle.clock.specs.Clock.{decodeTimeout, decodeVcsel, toMicroseconds}
+use Rattle.clock.specs.Clock.{decodeTimeout, decodeVcselPeriod, timeoutMclksToMicroseconds}
 use Rattle.timing.specs.declared.TimingRegisters.{TimingRegisters}
-use Rattle.timing.specs.Registers.{stepsOf}
+use Rattle.timing.specs.Registers.{sequenceStepEnables, whenOn}
 
 -- the value of an answer, or 0
 abbrev pub mclksIn : MclksOr → Mclks
@@ -33,32 +33,27 @@ wholeClocks r = mclksIn (decodeTimeout (r .finaltimeout))
 
 -- what pre-range takes while it is on
 unfoldable pub preShare : TimingRegisters → Mclks
-unfolding preClocks
-preShare r = record { 0 = cond (stepsOf (r .sequence) .prerange) (preClocks r .0) 0 }
+preShare r = record { 0 = whenOn (sequenceStepEnables (r .sequence) .prerange) (preClocks r .0) }
 
 -- lib.rs 662: while pre-range is on, its clocks are taken off the register's
 unfoldable pub finalClocks : TimingRegisters → Mclks
-unfolding wholeClocks preShare
 finalClocks r = record { 0 = wholeClocks r .0 - preShare r .0 }
 
 unfoldable pub prePeriod : TimingRegisters → Pclks
-prePeriod r = pclksIn (decodeVcsel (r .preperiod))
+prePeriod r = pclksIn (decodeVcselPeriod (r .preperiod))
 
 unfoldable pub msrcClocks : TimingRegisters → Mclks
 msrcClocks r = record { 0 = r .msrctimeout + 1 }
 
 unfoldable pub finalPeriod : TimingRegisters → Pclks
-finalPeriod r = pclksIn (decodeVcsel (r .finalperiod))
+finalPeriod r = pclksIn (decodeVcselPeriod (r .finalperiod))
 
 -- the three microsecond figures are computed whatever the sequence byte says; MSRC and pre-range share a period
 unfoldable pub msrcTime : TimingRegisters → MicrosecondsOr
-unfolding msrcClocks prePeriod
-msrcTime r = toMicroseconds (msrcClocks r) (prePeriod r)
+msrcTime r = timeoutMclksToMicroseconds (msrcClocks r) (prePeriod r)
 
 unfoldable pub preTime : TimingRegisters → MicrosecondsOr
-unfolding preClocks prePeriod
-preTime r = toMicroseconds (preClocks r) (prePeriod r)
+preTime r = timeoutMclksToMicroseconds (preClocks r) (prePeriod r)
 
 unfoldable pub finalTime : TimingRegisters → MicrosecondsOr
-unfolding finalClocks finalPeriod
-finalTime r = toMicroseconds (finalClocks r) (finalPeriod r)
+finalTime r = timeoutMclksToMicroseconds (finalClocks r) (finalPeriod r)

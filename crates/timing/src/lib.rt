@@ -5,7 +5,7 @@ mod registers;
 mod timeouts;
 
 pub use places::first_place;
-pub use registers::sequence_steps;
+pub use registers::sequence_step_enables;
 pub use registers::timing_registers;
 pub use timeouts::final_period;
 pub use timeouts::final_time;
@@ -31,7 +31,7 @@ pub struct TimingRegisters {
 }
 
 // Which steps of the sequence are on.
-pub struct Steps {
+pub struct SeqStepEnables {
     pub tcc: bool,
     pub dss: bool,
     pub msrc: bool,

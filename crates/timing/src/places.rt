@@ -1,9 +1,10 @@
 // The first place of the replies that are known, in the Rust's order.
 ghost use mathlib.Core.Path.{_≡_};
-ghost use Rattle.timing.specs.Places.{timeoutPlace, periodPlace, timePlace, after, whenLess, lessPlace, msrcPlace, entriesOf, seen, firstOf, placeOr, firstPlace};
+ghost use Rattle.timing.specs.Places.{timeoutPlace, periodPlace, timePlace, whenLess, lessPlace, msrcPlace};
+ghost use Rattle.timing.specs.Places.{entriesOf, after, seen, firstOf, placeOr, firstPlace};
 use crate::PlaceOr;
 use crate::TimingRegisters;
-use crate::registers::sequence_steps;
+use crate::registers::sequence_step_enables;
 use crate::timeouts::final_time;
 use crate::timeouts::msrc_time;
 use crate::timeouts::pre_clocks;
@@ -53,7 +54,7 @@ fn when_less(on: bool, whole: u16, pre: u16) -> u8
 fn less_place(r: TimingRegisters) -> u8
     ensures { λ p. ⌜ p ≡ lessPlace r ⌝ }
 {
-    let on = sequence_steps(r.sequence).prerange;
+    let on = sequence_step_enables(r.sequence).prerange;
     when_less(on, whole_clocks(r).0, pre_clocks(r).0)
 }
 

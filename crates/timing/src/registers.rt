@@ -1,7 +1,7 @@
 // From the raw reply bytes to numbers and flags.
 ghost use mathlib.Core.Path.{_≡_};
-ghost use Rattle.timing.specs.Registers.{wordOf, registersOf, stepsOf};
-use crate::Steps;
+ghost use Rattle.timing.specs.Registers.{wordOf, registersOf, sequenceStepEnables};
+use crate::SeqStepEnables;
 use crate::TimingRegisters;
 
 fn word(high: u8, low: u8) -> u16
@@ -25,10 +25,10 @@ pub fn timing_registers(bytes: [u8; 8]) -> TimingRegisters
 }
 
 // The steps that the sequence byte turns on.
-pub fn sequence_steps(sequence: u8) -> Steps
-    ensures { λ r. ⌜ r ≡ stepsOf sequence ⌝ }
+pub fn sequence_step_enables(sequence: u8) -> SeqStepEnables
+    ensures { λ r. ⌜ r ≡ sequenceStepEnables sequence ⌝ }
 {
-    Steps {
+    SeqStepEnables {
         tcc: sequence / 16 % 2 == 1,
         dss: sequence / 8 % 2 == 1,
         msrc: sequence / 4 % 2 == 1,

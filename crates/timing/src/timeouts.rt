@@ -2,10 +2,11 @@
 // nothing uses it, since the place comes first.
 ghost use mathlib.Core.Path.{_≡_};
 ghost use Prim.Native.Nat.{_-_};
-ghost use mathlib.Core.Bool.{cond};
-ghost use Rattle.timing.specs.Timeouts.{mclksIn, pclksIn, timeIn, preClocks, wholeClocks, preShare, finalClocks, prePeriod, msrcClocks, finalPeriod, msrcTime, preTime, finalTime};
+ghost use Rattle.timing.specs.Registers.{whenOn};
+ghost use Rattle.timing.specs.Timeouts.{mclksIn, pclksIn, timeIn, preClocks, wholeClocks, preShare, finalClocks};
+ghost use Rattle.timing.specs.Timeouts.{prePeriod, msrcClocks, finalPeriod, msrcTime, preTime, finalTime};
 use crate::TimingRegisters;
-use crate::registers::sequence_steps;
+use crate::registers::sequence_step_enables;
 use clock::Mclks;
 use clock::MclksOr;
 use clock::Microseconds;
@@ -53,7 +54,7 @@ pub fn whole_clocks(r: TimingRegisters) -> Mclks
 }
 
 fn when_on(on: bool, n: u16) -> u16
-    ensures { λ r. ⌜ r ≡ cond on n 0 ⌝ }
+    ensures { λ r. ⌜ r ≡ whenOn on n ⌝ }
 {
     if on { n } else { 0 }
 }
@@ -61,7 +62,7 @@ fn when_on(on: bool, n: u16) -> u16
 pub fn pre_share(r: TimingRegisters) -> Mclks
     ensures { λ m. ⌜ m ≡ preShare r ⌝ }
 {
-    Mclks(when_on(sequence_steps(r.sequence).prerange, pre_clocks(r).0))
+    Mclks(when_on(sequence_step_enables(r.sequence).prerange, pre_clocks(r).0))
 }
 
 fn less(a: u16, b: u16) -> u16
@@ -70,19 +71,19 @@ fn less(a: u16, b: u16) -> u16
     if a < b { 0 } else { a - b }
 }
 
-pub fn final_clocks(r: TimingRegisters) -> Mclks
+fn final_clocks(r: TimingRegisters) -> Mclks
     ensures { λ m. ⌜ m ≡ finalClocks r ⌝ }
 {
     Mclks(less(whole_clocks(r).0, pre_share(r).0))
 }
 
-pub fn pre_period(r: TimingRegisters) -> Pclks
+fn pre_period(r: TimingRegisters) -> Pclks
     ensures { λ p. ⌜ p ≡ prePeriod r ⌝ }
 {
     pclks_in(clock::decode_vcsel_period(r.preperiod))
 }
 
-pub fn msrc_clocks(r: TimingRegisters) -> Mclks
+fn msrc_clocks(r: TimingRegisters) -> Mclks
     ensures { λ m. ⌜ m ≡ msrcClocks r ⌝ }
 {
     Mclks((r.msrctimeout as u16) + 1)

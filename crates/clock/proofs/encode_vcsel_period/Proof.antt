@@ -3,7 +3,7 @@ use Prim.Native.Nat.{_≤_, _<_}
 use native.Mathlib.Omega.{arith}
 use borrow.Author.Needs.{needs}
 use borrow.Author.Tests.{le-leb, lt-leb}
-use Rattle.clock.specs.Clock.{encodeVcsel}
+use Rattle.clock.specs.Clock.{encodeVcselPeriod}
 use Rattle.clock.proofs.encode_vcsel_period.Statement.{statement}
 use Rattle.clock.proofs.encode_vcsel_period.Tie as tie
 
@@ -11,13 +11,13 @@ sub-t6 : tie.Need-sub-t6
 sub-t6 c = search needs
 
 returns : tie.Need-returns
-unfolding encodeVcsel
+unfolding encodeVcselPeriod
 returns c =
     let h : c .before .args .period .0 ≤ 1 = omega arith in
     simp (le-leb _ _ h)
 
 returns-2 : tie.Need-returns-2
-unfolding encodeVcsel
+unfolding encodeVcselPeriod
 returns-2 c =
     let h : 1 < c .before .args .period .0 = omega arith in
     simp (lt-leb _ _ h)

@@ -4,7 +4,7 @@ use Prim.Native.Nat.{_≤_, _<_}
 use native.Mathlib.Omega.{arith}
 use borrow.Author.Tests.{lt-ltb, le-ltb}
 use Rattle.threshold.specs.declared.Millimeters.{Millimeters}
-use Rattle.threshold.specs.declared.Thresholds.the-variants.{Valid, InvalidArgument}
+use Rattle.threshold.specs.declared.ThresholdCheck.the-variants.{Valid, InvalidArgument}
 use Rattle.threshold.specs.Threshold.{checkThresholds}
 use Rattle.threshold.proofs.check_thresholds.Statement.{statement}
 use Rattle.threshold.proofs.check_thresholds.Tie as tie

@@ -9,20 +9,11 @@ enum-known-clocks c = search needs
 enum-known-clocks-2 : tie.Need-enum-known-clocks-2
 enum-known-clocks-2 c = search needs
 
-cut-mclks-requires : tie.Need-cut-mclks-requires
-cut-mclks-requires c κs = search needs
-
-cast-word-of-sum : tie.Need-cast-word-of-sum
-cast-word-of-sum c = search needs
-
 pre-share-requires : tie.Need-pre-share-requires
 pre-share-requires c κs = search needs
 
-cast-word-of-sum-2 : tie.Need-cast-word-of-sum-2
-cast-word-of-sum-2 c = search needs
-
-add-word-of-sum : tie.Need-add-word-of-sum
-add-word-of-sum c = search needs
+with-pre-requires : tie.Need-with-pre-requires
+with-pre-requires c κs = search needs
 
 word-of-sum-requires : tie.Need-word-of-sum-requires
 word-of-sum-requires c κs = search needs
@@ -32,12 +23,12 @@ returns c = simp (c .before .clocks .given .1)
 
 returns-2 : tie.Need-returns-2
 returns-2 c =
-    let cut = c .before .before .before .before in
+    let pre = c .before .before in
     simp (
-      cut .before .before .clocks2 .given .1,
+      pre .before .before .clocks2 .given .1,
       c .word-of-sum .ensures,
-      c .before .before .pre-share .ensures,
-      cut .cut-mclks .ensures,
+      c .before .with-pre .ensures,
+      pre .pre-share .ensures,
     )
 
 pub word-of-clocks-spec : {M : Type 1} → statement M
@@ -46,11 +37,8 @@ word-of-clocks-spec =
     (tie.spec
     enum-known-clocks
     enum-known-clocks-2
-    cut-mclks-requires
-    cast-word-of-sum
     pre-share-requires
-    cast-word-of-sum-2
-    add-word-of-sum
+    with-pre-requires
     word-of-sum-requires
     returns
     returns-2)

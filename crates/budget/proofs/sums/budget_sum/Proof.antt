@@ -24,11 +24,11 @@ sum-is c =
       pre .before .pre-time .ensures,
       msrc .time-in .ensures,
       msrc .before .msrc-time .ensures,
-      msrc .before .before .sequence-steps .ensures,
+      msrc .before .before .sequence-step-enables .ensures,
     )
 
-sequence-steps-requires : tie.Need-sequence-steps-requires
-sequence-steps-requires c κs = search needs
+sequence-step-enables-requires : tie.Need-sequence-step-enables-requires
+sequence-step-enables-requires c κs = search needs
 
 msrc-time-requires : tie.Need-msrc-time-requires
 msrc-time-requires c κs = search needs
@@ -59,7 +59,9 @@ step-sum-requires : tie.Need-step-sum-requires
 step-sum-requires c κs = search needs
 
 cast-t10 : tie.Need-cast-t10
-cast-t10 c = record { fits = subst (λ (k : ℕ). k < 2 ^ 32) (sym (sum-is c)) (budget-fits (c .before .before .before .before .before .before .before .before .args .r)) }
+cast-t10 c =
+    let r = c .before .before .before .before .before .before .before .before .args .r in
+    record { fits = subst (λ (k : ℕ). k < 2 ^ 32) (sym (sum-is c)) (budget-fits r) }
 
 returns : tie.Need-returns
 unfolding budgetSum
@@ -69,7 +71,7 @@ pub budget-sum-spec : {M : Type 1} → statement M
 budget-sum-spec =
     tie.close
     (tie.spec
-    sequence-steps-requires
+    sequence-step-enables-requires
     msrc-time-requires
     time-in-requires
     pre-time-requires

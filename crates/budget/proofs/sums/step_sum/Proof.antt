@@ -19,8 +19,8 @@ module _ (c : tie.After-when-on3) where
   tcc-le : c .before .before .before .when-on .result ≤ a .args .msrc + 590
   tcc-le = at-most (c .before .before .before .when-on .ensures) (when-le (a .args .on .tcc) (a .args .msrc + 590))
 
-  dss-le : c .before .before .dss-part .result ≤ 2 * a .args .msrc + 1380
-  dss-le = at-most (c .before .before .dss-part .ensures) (part-le (a .args .on) (a .args .dss) (a .args .msrc))
+  dss-le : c .before .before .dss-or-msrc .result ≤ 2 * a .args .msrc + 1380
+  dss-le = at-most (c .before .before .dss-or-msrc .ensures) (part-le (a .args .on) (a .args .dss) (a .args .msrc))
 
   pre-le : c .before .when-on2 .result ≤ a .args .pre + 660
   pre-le = at-most (c .before .when-on2 .ensures) (when-le (a .args .on .prerange) (a .args .pre + 660))
@@ -34,8 +34,8 @@ add-when-on c = search needs
 when-on-requires : tie.Need-when-on-requires
 when-on-requires c κs = search needs
 
-dss-part-requires : tie.Need-dss-part-requires
-dss-part-requires c κs = search needs
+dss-or-msrc-requires : tie.Need-dss-or-msrc-requires
+dss-or-msrc-requires c κs = search needs
 
 add-when-on-2 : tie.Need-add-when-on-2
 add-when-on-2 c = search needs
@@ -63,7 +63,7 @@ add-result-5 c = omega (arith, tcc-le c, dss-le c, pre-le c, last-le c)
 
 returns : tie.Need-returns
 unfolding stepSum
-returns c = simp (c .before .before .before .when-on .ensures, c .before .before .dss-part .ensures, c .before .when-on2 .ensures, c .when-on3 .ensures)
+returns c = simp (c .before .before .before .when-on .ensures, c .before .before .dss-or-msrc .ensures, c .before .when-on2 .ensures, c .when-on3 .ensures)
 
 pub step-sum-spec : {M : Type 1} → statement M
 step-sum-spec =
@@ -71,7 +71,7 @@ step-sum-spec =
     (tie.spec
     add-when-on
     when-on-requires
-    dss-part-requires
+    dss-or-msrc-requires
     add-when-on-2
     when-on-requires-2
     when-on-requires-3

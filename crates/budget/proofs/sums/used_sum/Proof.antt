@@ -21,11 +21,11 @@ sum-is c =
       pre .before .pre-time .ensures,
       msrc .time-in .ensures,
       msrc .before .msrc-time .ensures,
-      msrc .before .before .sequence-steps .ensures,
+      msrc .before .before .sequence-step-enables .ensures,
     )
 
-sequence-steps-requires : tie.Need-sequence-steps-requires
-sequence-steps-requires c κs = search needs
+sequence-step-enables-requires : tie.Need-sequence-step-enables-requires
+sequence-step-enables-requires c κs = search needs
 
 msrc-time-requires : tie.Need-msrc-time-requires
 msrc-time-requires c κs = search needs
@@ -55,7 +55,7 @@ pub used-sum-spec : {M : Type 1} → statement M
 used-sum-spec =
     tie.close
     (tie.spec
-    sequence-steps-requires
+    sequence-step-enables-requires
     msrc-time-requires
     time-in-requires
     pre-time-requires

@@ -1,4 +1,4 @@
--- `rate::rate_word` meets its contract: each branch is a law of `proofs/Word.antt`.
+-- `rate::signal_rate_limit_word` meets its contract: each branch is a law of `proofs/Word.antt`.
 use mathlib.Core.Path.{_≡_, sym, ap, _∙_, subst}
 use mathlib.Core.Bool.{true}
 use native.Mathlib.Omega.{arith}
@@ -9,8 +9,8 @@ use Rattle.rate.specs.Rate.{inRange}
 use Rattle.rate.specs.declared.RateWord.the-variants.{Word}
 use Rattle.rate.proofs.Word.{no-nan, refused-nan, refused-below, refused-above, ranged, word-by-bits}
 use Rattle.rate.proofs.Product.{product-number, in-range-finite}
-use Rattle.rate.proofs.rate_word.Statement.{statement}
-use Rattle.rate.proofs.rate_word.Tie as tie
+use Rattle.rate.proofs.signal_rate_limit_word.Statement.{statement}
+use Rattle.rate.proofs.signal_rate_limit_word.Tie as tie
 
 returns : tie.Need-returns
 returns c = refused-nan (c .before .args .bits) (omega arith)
@@ -43,8 +43,8 @@ returns-3 c = refused-above (c .before .before .before .args .bits) (c .if3 .lef
 returns-4 : tie.Need-returns-4
 returns-4 c = refused-below (c .before .before .args .bits) (c .if2 .left)
 
-pub rate-word-spec : {M : Type 1} → statement M
-rate-word-spec =
+pub signal-rate-limit-word-spec : {M : Type 1} → statement M
+signal-rate-limit-word-spec =
     tie.close
     (tie.spec
     returns
