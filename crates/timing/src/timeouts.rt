@@ -47,6 +47,7 @@ pub fn pre_clocks(r: TimingRegisters) -> Mclks
     mclks_in(clock::decode_timeout(r.pretimeout))
 }
 
+// The final range's clocks as its register has them.
 pub fn whole_clocks(r: TimingRegisters) -> Mclks
     ensures { λ m. ⌜ m ≡ wholeClocks r ⌝ }
 {
@@ -59,12 +60,14 @@ fn when_on(on: bool, n: u16) -> u16
     if on { n } else { 0 }
 }
 
+// Pre-range's clocks while it is on: what the final range's register counts in.
 pub fn pre_share(r: TimingRegisters) -> Mclks
     ensures { λ m. ⌜ m ≡ preShare r ⌝ }
 {
     Mclks(when_on(sequence_step_enables(r.sequence).prerange, pre_clocks(r).0))
 }
 
+// a less b, or 0.
 fn less(a: u16, b: u16) -> u16
     ensures { λ r. ⌜ r ≡ a - b ⌝ }
 {
