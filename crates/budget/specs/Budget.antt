@@ -10,7 +10,7 @@ use Rattle.clock.specs.declared.WideMclksOr.{WideMclksOr}
 use Rattle.clock.specs.Clock.{encodeTimeout, timeoutMicrosecondsToMclks, cutMclks}
 use Rattle.timing.specs.declared.TimingRegisters.{TimingRegisters}
 use Rattle.timing.specs.declared.PlaceOr.{PlaceOr}
-use Rattle.timing.specs.Timeouts.{preShare, finalPeriod}
+use Rattle.timing.specs.Timeouts.{preShare, periodClocks}
 use Rattle.timing.specs.Places.{firstPlace}
 use Rattle.budget.specs.declared.DssTerm.{DssTerm}
 use Rattle.budget.specs.declared.WordOr.{WordOr}
@@ -41,7 +41,7 @@ wordOfClocks (WideMclksOr.Value n) r = wordOfSum (withPre n (preShare r))
 unfoldable pub wordWithin : TimingRegisters → Microseconds → Microseconds → WordOr
 wordWithin r budget used =
     cond (ltb (budget .0) (used .0)) WordOr.NoTime
-    (wordOfClocks (timeoutMicrosecondsToMclks (record { 0 = budget .0 - used .0 }) (finalPeriod r)) r)
+    (wordOfClocks (timeoutMicrosecondsToMclks (record { 0 = budget .0 - used .0 }) (periodClocks (r .finalperiod))) r)
 
 -- a place, or what the time left gives. lib.rs 779
 abbrev pub wordAfter : PlaceOr → TimingRegisters → Microseconds → DssTerm → WordOr

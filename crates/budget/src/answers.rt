@@ -13,8 +13,8 @@ use clock::WideMclks;
 use clock::WideMclksOr;
 use timing::PlaceOr;
 use timing::TimingRegisters;
-use timing::final_period;
 use timing::first_place;
+use timing::period_clocks;
 use timing::pre_share;
 
 fn budget_after(place: PlaceOr, r: TimingRegisters) -> MicrosecondsOr
@@ -67,7 +67,7 @@ fn word_within(r: TimingRegisters, budget: Microseconds, used: Microseconds) -> 
     } else {
         let left = Microseconds(budget.0 - used.0);
         word_of_clocks(
-            clock::timeout_microseconds_to_mclks(left, final_period(r)),
+            clock::timeout_microseconds_to_mclks(left, period_clocks(r.finalperiod)),
             r,
         )
     }

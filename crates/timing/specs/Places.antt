@@ -11,7 +11,7 @@ use Rattle.clock.specs.Clock.{decodeTimeout, decodeVcselPeriod}
 use Rattle.timing.specs.declared.TimingRegisters.{TimingRegisters}
 use Rattle.timing.specs.declared.PlaceOr.{PlaceOr}
 use Rattle.timing.specs.Registers.{sequenceStepEnables, whenOn}
-use Rattle.timing.specs.Timeouts.{preClocks, wholeClocks, msrcTime, preTime, finalTime}
+use Rattle.timing.specs.Timeouts.{timeoutClocks, msrcTime, preTime, finalTime}
 
 -- the place of an answer, or 0
 abbrev pub mclksPlace : MclksOr → ℕ
@@ -37,7 +37,7 @@ abbrev pub whenLess : Bool → ℕ → ℕ → ℕ
 whenLess on whole pre = whenOn on (cond (ltb whole pre) 3 0)
 
 unfoldable pub lessPlace : TimingRegisters → ℕ
-lessPlace r = whenLess (sequenceStepEnables (r .sequence) .prerange) (wholeClocks r .0) (preClocks r .0)
+lessPlace r = whenLess (sequenceStepEnables (r .sequence) .prerange) (timeoutClocks (r .finaltimeout) .0) (timeoutClocks (r .pretimeout) .0)
 
 -- 01: "0x46 plus 1 over 255: place 5"
 abbrev pub msrcPlace : ℕ → ℕ

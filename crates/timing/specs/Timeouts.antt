@@ -1,6 +1,6 @@
 -- lib.rs: get_sequence_step_timeouts, figure by figure.
 -- Where a figure's own arithmetic has a place its value here is 0: nothing uses it, since the place comes first.
-use Prim.Native.Nat.{_+_, _-_}
+use Prim.Native.Nat.{ℕ, _+_, _-_}
 use Rattle.clock.specs.declared.Mclks.{Mclks}
 use Rattle.clock.specs.declared.Pclks.{Pclks}
 use Rattle.clock.specs.declared.Microseconds.{Microseconds}
@@ -24,36 +24,32 @@ abbrev pub timeIn : MicrosecondsOr → Microseconds
 timeIn (MicrosecondsOr.Value t) = t
 timeIn (MicrosecondsOr.Place p) = record { 0 = 0 }
 
-unfoldable pub preClocks : TimingRegisters → Mclks
-preClocks r = mclksIn (decodeTimeout (r .pretimeout))
+-- the clocks of 0x51 and of 0x71. lib.rs 656, 659
+unfoldable pub timeoutClocks : ℕ → Mclks
+timeoutClocks word = mclksIn (decodeTimeout word)
 
--- the final range's clocks as the register has them
-unfoldable pub wholeClocks : TimingRegisters → Mclks
-wholeClocks r = mclksIn (decodeTimeout (r .finaltimeout))
+-- the pulse clocks of 0x50 and of 0x70. lib.rs 665, 669: get_vcsel_pulse_period
+unfoldable pub periodClocks : ℕ → Pclks
+periodClocks byte = pclksIn (decodeVcselPeriod byte)
 
 -- what pre-range takes while it is on
 unfoldable pub preShare : TimingRegisters → Mclks
-preShare r = record { 0 = whenOn (sequenceStepEnables (r .sequence) .prerange) (preClocks r .0) }
+preShare r = record { 0 = whenOn (sequenceStepEnables (r .sequence) .prerange) (timeoutClocks (r .pretimeout) .0) }
 
 -- lib.rs 662: while pre-range is on, its clocks are taken off the register's
 unfoldable pub finalClocks : TimingRegisters → Mclks
-finalClocks r = record { 0 = wholeClocks r .0 - preShare r .0 }
+finalClocks r = record { 0 = timeoutClocks (r .finaltimeout) .0 - preShare r .0 }
 
-unfoldable pub prePeriod : TimingRegisters → Pclks
-prePeriod r = pclksIn (decodeVcselPeriod (r .preperiod))
-
+-- lib.rs 667
 unfoldable pub msrcClocks : TimingRegisters → Mclks
 msrcClocks r = record { 0 = r .msrctimeout + 1 }
 
-unfoldable pub finalPeriod : TimingRegisters → Pclks
-finalPeriod r = pclksIn (decodeVcselPeriod (r .finalperiod))
-
 -- the three microsecond figures are computed whatever the sequence byte says; MSRC and pre-range share a period
 unfoldable pub msrcTime : TimingRegisters → MicrosecondsOr
-msrcTime r = timeoutMclksToMicroseconds (msrcClocks r) (prePeriod r)
+msrcTime r = timeoutMclksToMicroseconds (msrcClocks r) (periodClocks (r .preperiod))
 
 unfoldable pub preTime : TimingRegisters → MicrosecondsOr
-preTime r = timeoutMclksToMicroseconds (preClocks r) (prePeriod r)
+preTime r = timeoutMclksToMicroseconds (timeoutClocks (r .pretimeout)) (periodClocks (r .preperiod))
 
 unfoldable pub finalTime : TimingRegisters → MicrosecondsOr
-finalTime r = timeoutMclksToMicroseconds (finalClocks r) (finalPeriod r)
+finalTime r = timeoutMclksToMicroseconds (finalClocks r) (periodClocks (r .finalperiod))

@@ -7,9 +7,8 @@ use crate::TimingRegisters;
 use crate::registers::sequence_step_enables;
 use crate::timeouts::final_time;
 use crate::timeouts::msrc_time;
-use crate::timeouts::pre_clocks;
 use crate::timeouts::pre_time;
-use crate::timeouts::whole_clocks;
+use crate::timeouts::timeout_clocks;
 use clock::MclksOr;
 use clock::MicrosecondsOr;
 use clock::PclksOr;
@@ -55,7 +54,11 @@ fn less_place(r: TimingRegisters) -> u8
     ensures { λ p. ⌜ p ≡ lessPlace r ⌝ }
 {
     let on = sequence_step_enables(r.sequence).prerange;
-    when_less(on, whole_clocks(r).0, pre_clocks(r).0)
+    when_less(
+        on,
+        timeout_clocks(r.finaltimeout).0,
+        timeout_clocks(r.pretimeout).0,
+    )
 }
 
 fn msrc_place(byte: u8) -> u8

@@ -3,8 +3,8 @@
 ghost use mathlib.Core.Path.{_≡_};
 ghost use Prim.Native.Nat.{_-_};
 ghost use Rattle.timing.specs.Registers.{whenOn};
-ghost use Rattle.timing.specs.Timeouts.{mclksIn, pclksIn, timeIn, preClocks, wholeClocks, preShare, finalClocks};
-ghost use Rattle.timing.specs.Timeouts.{prePeriod, msrcClocks, finalPeriod, msrcTime, preTime, finalTime};
+ghost use Rattle.timing.specs.Timeouts.{timeoutClocks, periodClocks, timeIn, preShare, finalClocks};
+ghost use Rattle.timing.specs.Timeouts.{msrcClocks, msrcTime, preTime, finalTime};
 use crate::TimingRegisters;
 use crate::registers::sequence_step_enables;
 use clock::Mclks;
@@ -14,19 +14,19 @@ use clock::MicrosecondsOr;
 use clock::Pclks;
 use clock::PclksOr;
 
-fn mclks_in(x: MclksOr) -> Mclks
-    ensures { λ r. ⌜ r ≡ mclksIn x ⌝ }
+pub fn timeout_clocks(word: u16) -> Mclks
+    ensures { λ m. ⌜ m ≡ timeoutClocks word ⌝ }
 {
-    match x {
+    match clock::decode_timeout(word) {
         MclksOr::Value(m) => m,
         MclksOr::Place(_p) => Mclks(0),
     }
 }
 
-fn pclks_in(x: PclksOr) -> Pclks
-    ensures { λ r. ⌜ r ≡ pclksIn x ⌝ }
+pub fn period_clocks(byte: u8) -> Pclks
+    ensures { λ p. ⌜ p ≡ periodClocks byte ⌝ }
 {
-    match x {
+    match clock::decode_vcsel_period(byte) {
         PclksOr::Value(p) => p,
         PclksOr::Place(_p) => Pclks(0),
     }
@@ -41,19 +41,6 @@ pub fn time_in(x: MicrosecondsOr) -> Microseconds
     }
 }
 
-pub fn pre_clocks(r: TimingRegisters) -> Mclks
-    ensures { λ m. ⌜ m ≡ preClocks r ⌝ }
-{
-    mclks_in(clock::decode_timeout(r.pretimeout))
-}
-
-// The final range's clocks as its register has them.
-pub fn whole_clocks(r: TimingRegisters) -> Mclks
-    ensures { λ m. ⌜ m ≡ wholeClocks r ⌝ }
-{
-    mclks_in(clock::decode_timeout(r.finaltimeout))
-}
-
 fn when_on(on: bool, n: u16) -> u16
     ensures { λ r. ⌜ r ≡ whenOn on n ⌝ }
 {
@@ -64,7 +51,10 @@ fn when_on(on: bool, n: u16) -> u16
 pub fn pre_share(r: TimingRegisters) -> Mclks
     ensures { λ m. ⌜ m ≡ preShare r ⌝ }
 {
-    Mclks(when_on(sequence_step_enables(r.sequence).prerange, pre_clocks(r).0))
+    Mclks(when_on(
+        sequence_step_enables(r.sequence).prerange,
+        timeout_clocks(r.pretimeout).0,
+    ))
 }
 
 // a less b, or 0.
@@ -77,13 +67,7 @@ fn less(a: u16, b: u16) -> u16
 fn final_clocks(r: TimingRegisters) -> Mclks
     ensures { λ m. ⌜ m ≡ finalClocks r ⌝ }
 {
-    Mclks(less(whole_clocks(r).0, pre_share(r).0))
-}
-
-fn pre_period(r: TimingRegisters) -> Pclks
-    ensures { λ p. ⌜ p ≡ prePeriod r ⌝ }
-{
-    pclks_in(clock::decode_vcsel_period(r.preperiod))
+    Mclks(less(timeout_clocks(r.finaltimeout).0, pre_share(r).0))
 }
 
 fn msrc_clocks(r: TimingRegisters) -> Mclks
@@ -92,26 +76,20 @@ fn msrc_clocks(r: TimingRegisters) -> Mclks
     Mclks((r.msrctimeout as u16) + 1)
 }
 
-pub fn final_period(r: TimingRegisters) -> Pclks
-    ensures { λ p. ⌜ p ≡ finalPeriod r ⌝ }
-{
-    pclks_in(clock::decode_vcsel_period(r.finalperiod))
-}
-
 pub fn msrc_time(r: TimingRegisters) -> MicrosecondsOr
     ensures { λ t. ⌜ t ≡ msrcTime r ⌝ }
 {
-    clock::timeout_mclks_to_microseconds(msrc_clocks(r), pre_period(r))
+    clock::timeout_mclks_to_microseconds(msrc_clocks(r), period_clocks(r.preperiod))
 }
 
 pub fn pre_time(r: TimingRegisters) -> MicrosecondsOr
     ensures { λ t. ⌜ t ≡ preTime r ⌝ }
 {
-    clock::timeout_mclks_to_microseconds(pre_clocks(r), pre_period(r))
+    clock::timeout_mclks_to_microseconds(timeout_clocks(r.pretimeout), period_clocks(r.preperiod))
 }
 
 pub fn final_time(r: TimingRegisters) -> MicrosecondsOr
     ensures { λ t. ⌜ t ≡ finalTime r ⌝ }
 {
-    clock::timeout_mclks_to_microseconds(final_clocks(r), final_period(r))
+    clock::timeout_mclks_to_microseconds(final_clocks(r), period_clocks(r.finalperiod))
 }

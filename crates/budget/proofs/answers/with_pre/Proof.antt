@@ -1,9 +1,9 @@
 -- `budget::answers::with_pre` meets its contract.
-use Rattle.clock.specs.declared.Mclks.{Mclks}
-use native.Mathlib.Omega.{arith}
-use Prim.Native.Nat.{_%_}
 use mathlib.Core.Path.{_≡_, ap}
+use Prim.Native.Nat.{_%_}
+use native.Mathlib.Omega.{arith}
 use borrow.Author.Needs.{needs}
+use Rattle.clock.specs.declared.Mclks.{Mclks}
 use Rattle.budget.proofs.answers.with_pre.Statement.{statement}
 use Rattle.budget.proofs.answers.with_pre.Tie as tie
 

@@ -7,8 +7,8 @@ use Rattle.budget.specs.Budget.{wordWithin}
 use Rattle.budget.proofs.answers.word_within.Statement.{statement}
 use Rattle.budget.proofs.answers.word_within.Tie as tie
 
-final-period-requires : tie.Need-final-period-requires
-final-period-requires c κs = search needs
+period-clocks-requires : tie.Need-period-clocks-requires
+period-clocks-requires c κs = search needs
 
 timeout-microseconds-to-mclks-requires : tie.Need-timeout-microseconds-to-mclks-requires
 timeout-microseconds-to-mclks-requires c κs = search needs
@@ -32,14 +32,14 @@ returns-2 c =
       le-ltb _ _ h,
       c .word-of-clocks .ensures,
       c .before .timeout-microseconds-to-mclks .ensures,
-      c .before .before .final-period .ensures,
+      c .before .before .period-clocks .ensures,
     )
 
 pub word-within-spec : {M : Type 1} → statement M
 word-within-spec =
     tie.close
     (tie.spec
-    final-period-requires
+    period-clocks-requires
     timeout-microseconds-to-mclks-requires
     word-of-clocks-requires
     returns

@@ -7,11 +7,11 @@ use Rattle.timing.proofs.places.less_place.Tie as tie
 sequence-step-enables-requires : tie.Need-sequence-step-enables-requires
 sequence-step-enables-requires c κs = search needs
 
-whole-clocks-requires : tie.Need-whole-clocks-requires
-whole-clocks-requires c κs = search needs
+timeout-clocks-requires : tie.Need-timeout-clocks-requires
+timeout-clocks-requires c κs = search needs
 
-pre-clocks-requires : tie.Need-pre-clocks-requires
-pre-clocks-requires c κs = search needs
+timeout-clocks-requires-2 : tie.Need-timeout-clocks-requires-2
+timeout-clocks-requires-2 c κs = search needs
 
 when-less-requires : tie.Need-when-less-requires
 when-less-requires c κs = search needs
@@ -19,11 +19,12 @@ when-less-requires c κs = search needs
 returns : tie.Need-returns
 unfolding lessPlace
 returns c =
+    let pre = c .before in
     simp (
       c .when-less .ensures,
-      c .before .pre-clocks .ensures,
-      c .before .before .whole-clocks .ensures,
-      c .before .before .before .sequence-step-enables .ensures,
+      pre .timeout-clocks2 .ensures,
+      pre .before .timeout-clocks .ensures,
+      pre .before .before .sequence-step-enables .ensures,
     )
 
 pub less-place-spec : {M : Type 1} → statement M
@@ -31,7 +32,7 @@ less-place-spec =
     tie.close
     (tie.spec
     sequence-step-enables-requires
-    whole-clocks-requires
-    pre-clocks-requires
+    timeout-clocks-requires
+    timeout-clocks-requires-2
     when-less-requires
     returns)
