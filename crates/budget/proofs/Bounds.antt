@@ -34,7 +34,8 @@ part-le on dss m = go (on .dss)
     go false = omega (arith, when-le (on .msrc) (m + 660))
 
 sum-le :
-    (on : SeqStepEnables) (start : ℕ) (dss : DssTerm) (m p l : ℕ) → stepSum on start dss m p l ≤ start + 960 + (m + 590) + (2 * m + 1380) + (p + 660) + l
+    (on : SeqStepEnables) (start : ℕ) (dss : DssTerm) (m p l : ℕ)
+    → stepSum on start dss m p l ≤ start + 960 + (m + 590) + (2 * m + 1380) + (p + 660) + l
 unfolding stepSum
 sum-le on start dss m p l =
     omega (
@@ -59,11 +60,11 @@ time-le t ns = go (ltb 4294967295 (t .0 * ns .0 + ns .0 / 2)) refl
 
 -- ---- the sums of the two calls
 module _ (r : TimingRegisters) where
-  pub msrc-le : timeIn (msrcTime r) .0 ≤ 4294967
+  msrc-le : timeIn (msrcTime r) .0 ≤ 4294967
   unfolding msrcTime
   msrc-le = time-le _ _
 
-  pub pre-le : timeIn (preTime r) .0 ≤ 4294967
+  pre-le : timeIn (preTime r) .0 ≤ 4294967
   unfolding preTime
   pre-le = time-le _ _
 

@@ -3,12 +3,12 @@
 use mathlib.Core.Path.{_≡_, refl, sym, ap, _∙_, subst}
 use mathlib.Core.Bool.{Bool, true, false, cond}
 use mathlib.Core.List.{List, [], _∷_, _++_}
-use Prim.Native.Nat.{ℕ, zero, suc, _+_, _-_, _*_, _/_, _%_, _^_, _≤_, _<_}
+use Prim.Native.Nat.{ℕ, zero, suc, _+_, _-_, _*_, _/_, _%_, _^_, _≤_, _<_, min}
 use native.Mathlib.Omega.{arith}
 use native.Mathlib.Nat.{zero-add, sub-zero, zero-sub, suc-sub-suc, pow-succ', lt-of-lt-of-le}
 use native.Mathlib.Numerals.{one-add}
 use lib.Dec.{eqb, lit<}
-use lib.ListN.{length, getD}
+use lib.ListN.{length, drop, getD}
 use lib.Seq.{take-at, drop-at}
 use lib.Count.{ones, ones-step}
 use lib.Pow.{pow-mono}
@@ -67,13 +67,18 @@ unfolding byteOf trues ones
 ones-byte [] = refl
 ones-byte (x ∷ xs) = ones-step (cond x 1 0 + 2 * byteOf xs) ∙ rw (rest, half, ones-byte xs)
 
-pub trues-le : (s n : ℕ) (xs : List Bool) → trues (keep s n xs) ≤ n
+-- how many bits are kept
+pub kept-count : (s n : ℕ) (xs : List Bool) → trues (keep s n xs) ≡ min n (trues (drop s xs))
 unfolding keep trues
-trues-le s n [] = omega arith
-trues-le (suc s) n (x ∷ xs) = let h = trues-le s n xs in omega arith
-trues-le zero zero (x ∷ xs) = let h = trues-le zero zero xs in omega arith
-trues-le zero (suc n) (true ∷ xs) = let h = trues-le zero n xs in omega arith
-trues-le zero (suc n) (false ∷ xs) = let h = trues-le zero (suc n) xs in omega arith
+kept-count zero n [] = omega arith
+kept-count (suc s) n [] = omega arith
+kept-count (suc s) n (x ∷ xs) = let h = kept-count s n xs in omega arith
+kept-count zero zero (x ∷ xs) = let h = kept-count zero zero xs in omega arith
+kept-count zero (suc n) (true ∷ xs) = let h = kept-count zero n xs in omega arith
+kept-count zero (suc n) (false ∷ xs) = let h = kept-count zero (suc n) xs in omega arith
+
+pub trues-le : (s n : ℕ) (xs : List Bool) → trues (keep s n xs) ≤ n
+trues-le s n xs = omega (arith, kept-count s n xs)
 
 bit-lt : (x : Bool) (v p : ℕ) → v < p → cond x 1 0 + 2 * v < 2 * p
 bit-lt true v p h = omega arith

@@ -14,7 +14,7 @@ use lib.ListN.{length, take, drop, getD, length-take, length-drop, length-append
 use lib.Seq.{getD-append-add}
 use Rattle.spad.specs.Map.{isGood, bitsOf, byteOf, mapBits, mapBytes, firstSpad, keep, selected, onesIn}
 use Rattle.spad.specs.Map.{selectSpads, trues, available, goodBefore}
-use Rattle.spad.proofs.Keep.{length-keep, length-bits, half, rest, ones-byte}
+use Rattle.spad.proofs.Keep.{length-keep, length-bits, half, rest, ones-byte, kept-count}
 
 -- ---- bit i of the map is bit i % 8 of byte i / 8
 bits-at : (n b i : ℕ) → i < n → getD (bitsOf n b) i false ≡ eqb (b / 2 ^ i % 2) 1
@@ -107,15 +107,6 @@ kept-at (suc s) n zero (x ∷ xs) = rw (leb·suc-zero s, and-false)
 kept-at (suc s) n (suc i) (x ∷ xs) = rw (leb·suc-suc s i, suc-sub-suc) (kept-at s n i xs)
 
 -- ---- how many bits are kept
-kept-count : (s n : ℕ) (xs : List Bool) → trues (keep s n xs) ≡ min n (trues (drop s xs))
-unfolding keep trues
-kept-count zero n [] = omega arith
-kept-count (suc s) n [] = omega arith
-kept-count (suc s) n (x ∷ xs) = let h = kept-count s n xs in omega arith
-kept-count zero zero (x ∷ xs) = let h = kept-count zero zero xs in omega arith
-kept-count zero (suc n) (true ∷ xs) = let h = kept-count zero n xs in omega arith
-kept-count zero (suc n) (false ∷ xs) = let h = kept-count zero (suc n) xs in omega arith
-
 trues-append : (xs ys : List Bool) → trues (xs ++ ys) ≡ trues xs + trues ys
 unfolding trues
 trues-append [] ys = omega arith
