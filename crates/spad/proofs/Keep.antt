@@ -84,7 +84,7 @@ bit-lt : (x : Bool) (v p : ℕ) → v < p → cond x 1 0 + 2 * v < 2 * p
 bit-lt true v p h = omega arith
 bit-lt false v p h = omega arith
 
-byte-lt : (xs : List Bool) → byteOf xs < 2 ^ length xs
+pub byte-lt : (xs : List Bool) → byteOf xs < 2 ^ length xs
 unfolding byteOf
 byte-lt [] = lit< tt
 byte-lt (x ∷ xs) = rw (pow-succ' 2 (length xs)) (bit-lt x (byteOf xs) (2 ^ length xs) (byte-lt xs))
@@ -101,7 +101,7 @@ kept-half k b s n h =
     let l : k - 1 ≤ 7 = omega arith in
     lt-of-lt-of-le (kept-lt (k - 1) b s n) (pow-mono l)
 
-bit-is : (r : ℕ) → r ≤ 1 → r ≡ cond (eqb r 1) 1 0
+pub bit-is : (r : ℕ) → r ≤ 1 → r ≡ cond (eqb r 1) 1 0
 bit-is zero h = refl
 bit-is (suc zero) h = refl
 bit-is (suc (suc r)) h = absurd (omega arith)

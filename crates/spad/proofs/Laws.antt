@@ -23,7 +23,7 @@ bits-at zero b i h = absurd (omega arith)
 bits-at (suc n) b zero h = rw (div-one b)
 bits-at (suc n) b (suc i) h = rw (pow-succ' 2 i, ← div-div-eq-div-mul b 2 (2 ^ i)) (bits-at n (b / 2) i (omega arith))
 
-lt-or-ge : (i n : ℕ) → (i < n) ⊎ (n ≤ i)
+pub lt-or-ge : (i n : ℕ) → (i < n) ⊎ (n ≤ i)
 lt-or-ge i n = go (ltb i n) refl
   where
     go : (k : Bool) → ltb i n ≡ k → (i < n) ⊎ (n ≤ i)
@@ -65,13 +65,13 @@ bits-byte [] = refl
 bits-byte (x ∷ xs) = rw (rest, half, low, bits-byte xs)
 
 module _ (n : ℕ) (l : List Bool) (h : length l ≡ suc n * 8) where
-  first-eight : length (take 8 l) ≡ 8
+  pub first-eight : length (take 8 l) ≡ 8
   first-eight = length-take 8 l ∙ omega arith
 
-  after-eight : length (drop 8 l) ≡ n * 8
+  pub after-eight : length (drop 8 l) ≡ n * 8
   after-eight = length-drop 8 l ∙ omega arith
 
-bits-bytes : (n : ℕ) (l : List Bool) → length l ≡ n * 8 → mapBits (mapBytes n l) ≡ l
+pub bits-bytes : (n : ℕ) (l : List Bool) → length l ≡ n * 8 → mapBits (mapBytes n l) ≡ l
 unfolding mapBits mapBytes
 bits-bytes zero [] h = refl
 bits-bytes zero (x ∷ l) h = absurd (omega arith)
@@ -79,7 +79,7 @@ bits-bytes (suc n) l h =
     let t : bitsOf 8 (byteOf (take 8 l)) ≡ take 8 l = rw (first-eight n l h) at (bits-byte (take 8 l)) in
     rw (t, bits-bytes n (drop 8 l) (after-eight n l h)) (take-append-drop 8 l)
 
-length-map-bits : (m : List ℕ) → length (mapBits m) ≡ length m * 8
+pub length-map-bits : (m : List ℕ) → length (mapBits m) ≡ length m * 8
 unfolding mapBits
 length-map-bits [] = refl
 length-map-bits (b ∷ bs) = length-append (bitsOf 8 b) (mapBits bs) ∙ omega (arith, length-bits 8 b, length-map-bits bs)

@@ -1,2 +1,4 @@
+pub mod Loop
 pub mod Map
+pub mod Masks
 pub mod Walk

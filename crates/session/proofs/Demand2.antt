@@ -1,0 +1,41 @@
+-- Demand 2: over every list of bus replies an accepted call gives the transfers, the answer and the fields of its Rust function.
+use mathlib.Core.Path.{_≡_, refl, ap, _∙_}
+use mathlib.Core.Bool.{true, false}
+use mathlib.Core.List.{List}
+use Prim.Native.Nat.{ℕ, zero}
+use native.Mathlib.Omega.{arith}
+use Rattle.session.specs.Bus.{Driver}
+use Rattle.session.specs.Instructions.{Ctx}
+use Rattle.session.specs.Calls.{opsOf, programOf, argumentsOk}
+use Rattle.session.specs.Script.{Raw, play}
+use Rattle.session.specs.RustBringUp.{rust}
+use Rattle.session.specs.Machine.{Session, ctxOf, decide, begun, notUp, beginDef, drive}
+use Rattle.session.specs.Accepted.{Accepted}
+use Rattle.session.proofs.Table.{AllBelow, by-code}
+use Rattle.session.proofs.AcceptedIff.{range-is, ready-ok}
+use Rattle.session.proofs.Bisim.{begun-marked, decide-same, bisim}
+use Rattle.session.proofs.Tests.{verdict-same}
+use Rattle.session.proofs.Eager.{made-once}
+use Rattle.session.proofs.Same.{script, same-1, same-2, same-3, same-4, same-5, same-6, same-7, same-8, same-9, same-10, same-11, same-12, same-13, same-14, same-15}
+
+-- a call that is begun is the script of its instructions
+pub begin-same : (rs : List Raw) (s : Session) (code a b : ℕ) → argumentsOk code a b ≡ true → notUp code (s .driver .up) ≡ false
+    → drive rs (decide (programOf code .entry (ctxOf (begun s code a b))) (programOf code) 0 0 (begun s code a b)) ≡ play (script code (ctxOf (begun s code a b))) rs
+begin-same rs s code a b h u =
+    let c : Ctx = ctxOf (begun s code a b) in
+    decide-same rs (bisim rs) (programOf code .entry c) (begun s code a b) 0 0 (opsOf (programOf code))
+    (record { args = h; marked = begun-marked s code a b u; bound = omega arith }) refl
+    ∙ ap (λ x. play x rs) (verdict-same (programOf code .entry c) 0 c _ _ (made-once code c) (made-once code c))
+
+each : (s : Session) (a b : ℕ) → AllBelow (λ n. script n (ctxOf (begun s n a b)) ≡ rust (s .driver) n a b) 1 15
+each s a b =
+    let d : Driver = s .driver in
+    (same-1 d a b, (same-2 d a b, (same-3 d a b, (same-4 d a b, (same-5 d a b, (same-6 d a b, (same-7 d a b, (same-8 d a b, (same-9 d a b, (same-10 d a b, (same-11 d a b, (same-12 d a b, (same-13 d a b, (same-14 d a b, (same-15 d a b, tt)))))))))))))))
+
+pub demand-2 : (s : Session) (code a b : ℕ) → Accepted s code a b → (rs : List Raw) → drive rs (beginDef s code a b) ≡ play (rust (s .driver) code a b) rs
+unfolding beginDef
+demand-2 s code a b c rs =
+    let h : argumentsOk code a b ≡ true = range-is code a b ∙ c .arguments in
+    let u : notUp code (s .driver .up) ≡ false = ready-ok s code (c .ready) in
+    rw (c .none-waiting, h, u)
+    (begin-same rs s code a b h u ∙ ap (λ x. play x rs) (by-code (λ n. script n (ctxOf (begun s n a b)) ≡ rust (s .driver) n a b) (each s a b) code a b h))

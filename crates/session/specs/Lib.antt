@@ -1,0 +1,15 @@
+pub mod Bus
+pub mod Instructions
+pub mod Steps
+pub mod Calls
+pub mod Script
+pub mod Registers
+pub mod RustFn
+pub mod RustClocks
+pub mod RustCalls
+pub mod RustBringUp
+pub mod Machine
+pub mod History
+pub mod Refusals
+pub mod Accepted
+pub mod Claim
