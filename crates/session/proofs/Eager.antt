@@ -11,9 +11,10 @@ use Rattle.timing.specs.declared.PlaceOr.{PlaceOr}
 use Rattle.timing.specs.Places.{firstPlace}
 use Rattle.session.specs.Bus.{Transfer, Answer, Reply, bad, good, waitLimit, idleOn}
 use Rattle.session.specs.Instructions.{Instruction, Ctx, Op, write, read, wait, range, Final, bytesFrom, timingIn, sendOf}
-use Rattle.session.specs.Steps.{slot, byWord, budgetToSet, wordToSet, noTime, timingLength, opOf}
+use Rattle.session.specs.Steps.{slot, byWord, budgetToSet, wordToSet, noTime, overLast, timingLength, opOf}
 use Rattle.session.specs.Calls.{Program, opsOf, tuning, programs, programOf}
 use Rattle.session.specs.Script.{Script, done, send, onReply, waitLoop}
+use Rattle.session.proofs.Facts.{both}
 use Rattle.session.proofs.Table.{of-table}
 use Rattle.session.proofs.Resume.{keeping, failS, resume}
 use Rattle.session.proofs.Once.{Kind, timing, last, other, kindOf, onceBy, onceOf}
@@ -54,7 +55,7 @@ follows (suc (suc i)) k m j = eqb m (suc i) && (eqb j k && leb m 5)
 -- an instruction fits in where the first m replies from slot j on are clear
 abbrev fits : {i : Instruction} → ℕ → ℕ → Kind i → List Instruction → Bool
 fits m j (timing n k) is = follows n k m j
-fits m j (last k) is = follows 6 k m j && plainAfter 1 is
+fits m j (last k) is = follows 6 k m j && plainAfter (overLast k) is
 fits m j (other {i}) is = plainAfter (overOf (opOf i)) is
 
 -- what is clear after it
@@ -72,10 +73,6 @@ slotBy other = 0
 abbrev ordered : ℕ → ℕ → List Instruction → Bool
 ordered m j [] = true
 ordered m j (i ∷ is) = fits m j (kindOf i) is && ordered (repliesBy (kindOf i)) (slotBy (kindOf i)) is
-
-both : (a b : Bool) → a && b ≡ true → (a ≡ true) × (b ≡ true)
-both true b h = (refl, h)
-both false b h = (h, cc)
 
 -- the replies before it are clear
 knows : (i k m j : ℕ) (c : Ctx) → follows (suc i) k m j ≡ true → Clear m j c → (i ≤ 5) × Clear i k c
@@ -158,13 +155,13 @@ module _ (fin : Ctx → Final) where
       place-same (firstPlace (timingIn k (c′ .carried)) (suc n)) 0 c′ _ _ (λ e. s c′ e)
       ∙ first-agrees (timingIn k (c′ .carried)) n (stays n k m j c bs h p) 0 c′ _)
   step-same (last k) is m j c h p s =
-      let q = both (follows 6 k m j) (plainAfter 1 is) h in
+      let q = both (follows 6 k m j) (plainAfter (overLast k) is) h in
       send-same _ _
       (λ bs.
       let c′ : Ctx = keeping c (opOf (Instruction.ReadLast k)) (good bs) in
       let t : Same is c′ = s c′ (none-known _) in
-      verdict-same (byWord (noTime k) (wordToSet k c′)) 1 c′ _ _ t (leap-same 1 is c′ (q .1) t)
-      ∙ word-agrees (noTime k) (timingIn k (c′ .carried)) (budgetToSet k c′) (stays 5 k m j c bs (q .0) p) 1 c′ _)
+      verdict-same (byWord (noTime k) (wordToSet k c′)) (overLast k) c′ _ _ t (leap-same (overLast k) is c′ (q .1) t)
+      ∙ word-agrees (noTime k) (timingIn k (c′ .carried)) (budgetToSet k c′) (stays 5 k m j c bs (q .0) p) (overLast k) c′ _)
   step-same (other {i}) is m j c h p s = other-same (opOf i) is c h (λ c′. s c′ (none-known _))
 
   once : (is : List Instruction) (m j : ℕ) (c : Ctx) → ordered m j is ≡ true → Clear m j c → Same is c

@@ -30,3 +30,16 @@ pub mod Up
 pub mod Own
 pub mod Same
 pub mod Demand2
+pub mod Shape
+pub mod Floor
+pub mod Told
+pub mod Trace
+pub mod Owned
+pub mod Value
+pub mod Fields
+pub mod Steps
+pub mod React
+pub mod Keeps
+pub mod Demand3
+pub mod Runs
+pub mod Corollaries

@@ -11,7 +11,7 @@ use Rattle.budget.specs.declared.DssTerm.{DssTerm}
 use Rattle.budget.specs.Sums.{usedSum}
 use Rattle.budget.specs.Budget.{withPre}
 use Rattle.session.specs.Instructions.{Instruction, panics, Verdict, onward, stop, test, Op, read, timingIn}
-use Rattle.session.specs.Steps.{noTime, budgetToSet, timingRegister, timingLength, timingPlace, opOf}
+use Rattle.session.specs.Steps.{budgetToSet, noTime, overLast, timingRegister, timingLength, timingPlace, opOf}
 
 -- the places whose last reply is the n-th
 abbrev pub placesAt : ℕ → List Entry → List ℕ
@@ -45,7 +45,7 @@ onceTiming n k = read (timingRegister n) (timingLength n) (k + timingPlace n) 0 
 
 abbrev pub onceLast : ℕ → Op
 onceLast k =
-    read 0x70 1 (k + 7) 1
+    read 0x70 1 (k + 7) (overLast k)
     (λ c. byPlaces (placesAt 6 (entriesOf (timingIn k (c .carried)))) (wordTests (noTime k) (timingIn k (c .carried)) (budgetToSet k c)))
 
 -- a budget read that makes tests again, or another instruction

@@ -15,7 +15,7 @@ use Rattle.timing.specs.Places.{firstPlace}
 use Rattle.budget.specs.declared.DssTerm.{DssTerm}
 use Rattle.budget.specs.declared.WordOr.{WordOr}
 use Rattle.budget.specs.Budget.{finalRangeWord}
-use Rattle.session.specs.Bus.{detectorReady, statusReady, started, byte}
+use Rattle.session.specs.Bus.{byte, detectorReady, statusReady, started}
 use Rattle.session.specs.Instructions.{Instruction, Ctx, declines, wrongDevice, unready, panics, Verdict, onward, leap, stop, test, Op, write, read, wait, range, identitySlot, maskSlot, spadSlot, timingSlot, secondSlot, mapSlot, bytesFrom, timingIn}
 
 abbrev pub slot : ℕ → Ctx → ℕ
@@ -77,6 +77,9 @@ wordToSet k c = finalRangeWord (timingIn k (c .carried)) (record { 0 = budgetToS
 abbrev pub noTime : ℕ → Verdict
 noTime k = cond (eqb k secondSlot) leap (stop declines)
 
+abbrev pub overLast : ℕ → ℕ
+overLast k = cond (eqb k secondSlot) 1 0
+
 -- 01: "call 9 below 20,000"
 abbrev pub tooShort : ℕ → Bool
 tooShort budget = ltb budget 20000
@@ -127,7 +130,7 @@ opOf Instruction.WriteFunction = writes 0x0A (λ c. getD (0x04 ∷ 0x01 ∷ 0x02
 opOf Instruction.WritePolarity = writes 0x84 (λ c. cond (eqb (c .b) 0) (andByte (slot maskSlot c) 0xEF) (orByte (slot maskSlot c) 0x10) ∷ [])
 opOf Instruction.ReadStatus = read 0x13 1 maskSlot 0 (λ c. test (eqb (slot maskSlot c % 8) 0) (stop unready) onward)
 opOf (Instruction.ReadTiming n k) = read (timingRegister n) (timingLength n) (k + timingPlace n) 0 (λ c. byPlace (firstPlace (timingIn k (c .carried)) n))
-opOf (Instruction.ReadLast k) = read 0x70 1 (k + 7) 1 (λ c. byWord (noTime k) (wordToSet k c))
+opOf (Instruction.ReadLast k) = read 0x70 1 (k + 7) (overLast k) (λ c. byWord (noTime k) (wordToSet k c))
 opOf Instruction.RestoreSteps = write 0x01 (λ c. 0xE8 ∷ []) 1 7 (λ c. test (tooShort (c .own)) leap onward)
 opOf (Instruction.WriteWord k) = writes 0x71 (λ c. wordBytes (wordIn (wordToSet k c)))
 opOf Instruction.AwaitDetector = wait detectorReady

@@ -1,0 +1,151 @@
+-- Demand 3: one claim about every list of records that is run from a fresh session.
+use mathlib.Core.Path.{_≡_, refl, sym, ap, _∙_}
+use mathlib.Core.Bool.{true, false}
+use mathlib.Core.List.{List, [], _∷_}
+use Prim.Native.Nat.{ℕ, _≤_, _+_, zero-le}
+use native.Mathlib.Omega.{arith}
+use lib.Dec.{eqb}
+use lib.ListN.{length}
+use Rattle.session.specs.Bus.{Answer, Reply}
+use Rattle.session.specs.Script.{heard}
+use Rattle.session.specs.Machine.{Session, Outcome, sent, answered, refused, broken, freshSession, toReply, begun}
+use Rattle.session.specs.History.{Record, call, reply, other, recordsOf, isWhole, stepDef, Got, transfer, answer, refusal, Entry, isTransfer, isAnswer, isRefused, isAcceptedCall, callsIn, answersIn, repliesIn, transfersIn, refusedIn, countsOf, Run, stopped, taking, runFrom, runRecords, runDef, inOrder, Standing, waiting, ended, CallRun, replied, place, callsOf, isWaiting, waitingIn}
+use Rattle.session.specs.Claim.{waitingCode, waitingTransfers, Demand3}
+use Rattle.session.proofs.Facts.{cond-case}
+use Rattle.session.proofs.Up.{up-is, fields-are, down}
+use Rattle.session.proofs.Keeps.{Now, rests, waits, Inv, Step, StepOk, step-ok}
+
+-- the run
+record InvH (s : Session) (h : List Entry) : Type 0 where
+  inv : Inv s (callsOf h) (transfersIn h) (repliesIn h)
+  counts : length h ≡ callsIn h + repliesIn h + refusedIn h
+
+record RunOk (n : ℕ) (all : List Record) (run : Run) : Type 0 where
+  answered : run .answer ≡ Answer.Done 0
+  records : inOrder (run .history) [] ≡ all
+  tallied : run .counts ≡ countsOf (run .history)
+  whole : length (run .history) ≡ n
+  laws : InvH (run .session) (run .history)
+
+run-ok : (s₀ : Session) (rs : List Record) (s : Session) (h : List Entry) → InvH s h → RunOk (length h + length rs) (inOrder h rs) (runFrom s₀ rs s h)
+unfolding runFrom
+run-ok s₀ [] s h i = record { answered = refl; records = refl; tallied = refl; whole = omega arith; laws = i }
+run-ok s₀ (r ∷ rs) s h i =
+    on (stepDef s r) (step-ok s (callsOf h) (transfersIn h) (repliesIn h) r (i .inv)) (run-ok s₀ rs)
+  where
+    next : (s′ : Session) (g : Got) → Step s′ r (callsOf h) (transfersIn h) (repliesIn h) g
+        → ((s″ : Session) (h″ : List Entry) → InvH s″ h″ → RunOk (length h″ + length rs) (inOrder h″ rs) (runFrom s₀ rs s″ h″))
+        → RunOk (length h + length (r ∷ rs)) (inOrder h (r ∷ rs)) (runFrom s₀ rs s′ (record { what = r; got = g } ∷ h))
+    next s′ g fits k =
+        let q = k s′ (record { what = r; got = g } ∷ h) (record { inv = fits .1; counts = omega (arith, fits .0, i .counts) }) in
+        record { answered = q .answered; records = q .records; tallied = q .tallied; whole = q .whole ∙ omega arith; laws = q .laws }
+
+    on : (o : Outcome) → StepOk s r (callsOf h) (transfersIn h) (repliesIn h) o
+        → ((s″ : Session) (h″ : List Entry) → InvH s″ h″ → RunOk (length h″ + length rs) (inOrder h″ rs) (runFrom s₀ rs s″ h″))
+        → RunOk (length h + length (r ∷ rs)) (inOrder h (r ∷ rs)) (taking o s₀ h r (runFrom s₀ rs))
+    on (sent x s′) fits k = next s′ (transfer x) fits k
+    on (answered x n s′) fits k = next s′ (answer x n) fits k
+    on (refused x s′) fits k = next s′ (refusal x) fits k
+    on (broken s′) fits k = absurd fits
+
+-- each accepted call has its place, and only the last one can wait
+replied-length : (r : Reply) (st : Standing) (cs : List CallRun) → length (replied r st cs) ≡ length cs
+replied-length r st [] = refl
+replied-length r st (c ∷ cs) = refl
+
+length-calls : (h : List Entry) → callsIn h ≡ length (callsOf h)
+length-calls [] = refl
+length-calls (e ∷ h) = ap (λ n. isAcceptedCall (e .what) (e .got) + n) (length-calls h) ∙ go (e .what) (e .got) (callsOf h)
+  where
+    go : (w : Record) (g : Got) (cs : List CallRun) → isAcceptedCall w g + length cs ≡ length (place w g cs)
+    go (call code a b) (transfer t) cs = omega arith
+    go (call code a b) (answer x n) cs = omega arith
+    go (call code a b) (refusal x) cs = omega arith
+    go (reply f bs) (transfer t) cs = omega (arith, replied-length (toReply f bs) (waiting t) cs)
+    go (reply f bs) (answer x n) cs = omega (arith, replied-length (toReply f bs) (ended x n) cs)
+    go (reply f bs) (refusal x) cs = omega arith
+    go other g cs = omega arith
+
+at-most-one : {s : Session} (cs : List CallRun) → Now s cs → waitingIn cs ≤ 1
+at-most-one cs (rests e w) = omega (arith, w)
+at-most-one cs (waits op rest m w) = omega (arith, w)
+
+-- each entry is a transfer, an answer or a refusal
+one-of : (g : Got) → 1 ≡ isTransfer g + isAnswer g + isRefused g
+one-of (transfer t) = refl
+one-of (answer x n) = refl
+one-of (refusal x) = refl
+
+all-of : (h : List Entry) → length h ≡ transfersIn h + answersIn h + refusedIn h
+all-of [] = refl
+all-of (e ∷ h) = omega (arith, all-of h, one-of (e .got))
+
+-- what the session says of the call that waits
+none-waiting : (st : Standing) (n : ℕ) → isWaiting st + n ≡ 0 → eqb (isWaiting st) 1 ≡ false
+none-waiting (waiting t) n e = absurd (omega (arith, e))
+none-waiting (ended x m) n e = refl
+
+code-of : (s : Session) (cs : List CallRun) → Now s cs → s .code ≡ waitingCode cs
+code-of s [] (rests e w) = ap (λ x. x .code) e
+code-of s (c ∷ cs) (rests e w) = rw (none-waiting (c .standing) (waitingIn cs) w) (ap (λ x. x .code) e)
+code-of s cs (waits op rest m w) = refl
+
+transfers-of : (s : Session) (cs : List CallRun) → Now s cs → s .transfers ≡ waitingTransfers cs
+transfers-of s [] (rests e w) = ap (λ x. x .transfers) e
+transfers-of s (c ∷ cs) (rests e w) = rw (none-waiting (c .standing) (waitingIn cs) w) (ap (λ x. x .transfers) e)
+transfers-of s cs (waits op rest m w) = omega (arith, m .count)
+
+-- the records of a whole list
+of-records : (bytes : List ℕ) → isWhole bytes ≡ true → Demand3 bytes (runRecords freshSession (recordsOf bytes))
+unfolding runRecords
+of-records bytes e =
+    let rs = recordsOf bytes in
+    let q = run-ok freshSession rs freshSession [] (record { inv = record { sum = refl; made = refl; heard = refl; lawful = tt; driver = refl; begun-up = tt; now = rests refl refl }; counts = refl }) in
+    let h = runFrom freshSession rs freshSession [] .history in
+    let i = q .laws .inv in
+    record {
+      sum = i .sum;
+      calls = i .lawful;
+      up = ap (λ z. z .up) (i .driver) ∙ up-is (callsOf h);
+      fields = i .driver ∙ fields-are (callsOf h) (i .begun-up);
+      absent-while-down = λ d. i .driver ∙ fields-are (callsOf h) (i .begun-up) ∙ down (callsOf h) d;
+      answer = rw e (q .answered);
+      records = rw e (q .records);
+      tallied = q .tallied;
+      counted = q .laws .counts;
+      begun = length-calls h;
+      answers = omega (arith, all-of h, q .laws .counts, i .sum);
+      made = i .made;
+      heard = i .heard;
+      one = at-most-one _ (i .now);
+      begun-up = i .begun-up;
+      code = code-of _ (callsOf h) (i .now);
+      transfers = transfers-of _ (callsOf h) (i .now);
+    }
+
+-- spare bytes: nothing is run
+of-spare : (bytes : List ℕ) → isWhole bytes ≡ false → Demand3 bytes (stopped Answer.SpareBytes freshSession)
+of-spare bytes e =
+    record {
+      sum = refl;
+      calls = tt;
+      up = refl;
+      fields = refl;
+      absent-while-down = λ d. refl;
+      answer = rw e;
+      records = rw e;
+      tallied = refl;
+      counted = refl;
+      begun = refl;
+      answers = refl;
+      made = refl;
+      heard = refl;
+      one = zero-le;
+      begun-up = tt;
+      code = refl;
+      transfers = refl;
+    }
+
+pub demand-3 : (bytes : List ℕ) → Demand3 bytes (runDef freshSession bytes)
+unfolding runDef
+demand-3 bytes = cond-case (Demand3 bytes) (isWhole bytes) (λ e. of-records bytes e) (λ e. of-spare bytes e)
