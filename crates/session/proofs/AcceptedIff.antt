@@ -10,7 +10,7 @@ use borrow.Author.Tests.{leb-true, eqb-true, not-false, lt-leb, leb-false, ne-eq
 use Rattle.session.specs.Calls.{programOf, greatest, argumentsOk}
 use Rattle.session.specs.Machine.{Session, ctxOf, waitsNow, illFormed, begun, notUp, beginDef}
 use Rattle.session.specs.Refusals.{ranges, inRange}
-use Rattle.session.specs.Accepted.{Ready, bring-up, while-up, Accepted}
+use Rattle.session.specs.Claim2.{Ready, bring-up, while-up, Accepted}
 use Rattle.session.proofs.Facts.{cond-case}
 use Rattle.session.proofs.Table.{AllBelow, below}
 use Rattle.session.proofs.Accepts.{Accepts, decide-accepts}

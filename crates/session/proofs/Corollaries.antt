@@ -10,7 +10,7 @@ use lib.Dec.{T}
 use Rattle.session.specs.Bus.{Condition}
 use Rattle.session.specs.Machine.{freshSession}
 use Rattle.session.specs.History.{runDef, Exchange, CallRun, callsOf, transfersOf}
-use Rattle.session.specs.Claim.{ceilingIn, floorIn, readOf, idleReply, idleReads, isDone, All, Lawful}
+use Rattle.session.specs.Claim3.{ceilingIn, floorIn, readOf, idleReply, idleReads, isDone, All, Lawful}
 use Rattle.session.proofs.Demand3.{demand-3}
 
 -- the last n exchanges are there, and each is an idle read of the wait

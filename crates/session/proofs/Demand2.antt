@@ -10,7 +10,7 @@ use Rattle.session.specs.Calls.{opsOf, programOf, argumentsOk}
 use Rattle.session.specs.Script.{Raw, play}
 use Rattle.session.specs.RustBringUp.{rust}
 use Rattle.session.specs.Machine.{Session, ctxOf, decide, begun, notUp, beginDef, drive}
-use Rattle.session.specs.Accepted.{Accepted}
+use Rattle.session.specs.Claim2.{Accepted}
 use Rattle.session.proofs.Table.{AllBelow, by-code}
 use Rattle.session.proofs.AcceptedIff.{range-is, ready-ok}
 use Rattle.session.proofs.Bisim.{begun-marked, decide-same, bisim}

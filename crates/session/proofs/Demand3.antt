@@ -10,7 +10,7 @@ use Rattle.session.specs.Bus.{Answer, Reply}
 use Rattle.session.specs.Script.{heard}
 use Rattle.session.specs.Machine.{Session, Outcome, sent, answered, refused, broken, freshSession, toReply, begun}
 use Rattle.session.specs.History.{Record, call, reply, other, recordsOf, isWhole, stepDef, Got, transfer, answer, refusal, Entry, isTransfer, isAnswer, isRefused, isAcceptedCall, callsIn, answersIn, repliesIn, transfersIn, refusedIn, countsOf, Run, stopped, taking, runFrom, runRecords, runDef, inOrder, Standing, waiting, ended, CallRun, replied, place, callsOf, isWaiting, waitingIn}
-use Rattle.session.specs.Claim.{waitingCode, waitingTransfers, Demand3}
+use Rattle.session.specs.Claim3.{waitingCode, waitingTransfers, Demand3}
 use Rattle.session.proofs.Facts.{cond-case}
 use Rattle.session.proofs.Up.{up-is, fields-are, down}
 use Rattle.session.proofs.Keeps.{Now, rests, waits, Inv, Step, StepOk, step-ok}

@@ -14,7 +14,7 @@ use Rattle.session.specs.Instructions.{stop, timingSlot, budgetIn}
 use Rattle.session.specs.Steps.{slot}
 use Rattle.session.specs.Calls.{tuning, broughtUp, programs, programOf}
 use Rattle.session.specs.History.{Exchange}
-use Rattle.session.specs.Claim.{firstByte, budgetOfFirst, upBy, afterDone, afterBegun}
+use Rattle.session.specs.Claim3.{firstByte, budgetOfFirst, upBy, afterDone, afterBegun}
 use Rattle.session.proofs.Laws.{leaves}
 use Rattle.session.proofs.Trace.{Track, Sound, Traced}
 use Rattle.session.proofs.Owned.{Owns, Owned}

@@ -13,7 +13,7 @@ use Rattle.session.specs.Calls.{opsOf, programOf, argumentsOk}
 use Rattle.session.specs.Script.{heard}
 use Rattle.session.specs.Machine.{Session, Outcome, sent, answered, refused, broken, resting, ctxOf, decide, react, toReply, stray, replyDef, begun, notUp, beginDef, otherDef}
 use Rattle.session.specs.History.{Record, call, reply, other, stepDef, Got, transfer, answer, refusal, isTransfer, isRefused, isAcceptedCall, isAcceptedReply, Exchange, by, waiting, ended, CallRun, place, waitingIn, transfersOf}
-use Rattle.session.specs.Claim.{afterBegun, isUp, BegunUp, All, Lawful, sumOf, repliesOf}
+use Rattle.session.specs.Claim3.{afterBegun, isUp, BegunUp, All, Lawful, sumOf, repliesOf}
 use Rattle.session.proofs.Facts.{cond-case, untrue}
 use Rattle.session.proofs.Good.{code-test, good-sound}
 use Rattle.session.proofs.Bisim.{begun-marked}
@@ -22,7 +22,7 @@ use Rattle.session.proofs.Up.{fieldsOf, up-is, begun-while-up}
 use Rattle.session.proofs.Shape.{firstOk, opens-law, known-at}
 use Rattle.session.proofs.Floor.{floor-law}
 use Rattle.session.proofs.Told.{Told, told-first}
-use Rattle.session.proofs.Steps.{Match, Ahead, runOf, FineSent, Fine, decide-fine}
+use Rattle.session.proofs.Arrivals.{Match, Ahead, runOf, FineSent, Fine, decide-fine}
 use Rattle.session.proofs.React.{react-fine}
 
 -- the session and the calls of the history so far

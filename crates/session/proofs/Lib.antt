@@ -6,9 +6,10 @@ pub mod Cut
 pub mod Accepts
 pub mod Strays
 pub mod AcceptedIff
-pub mod Demand1
-pub mod Outstanding
+pub mod Sized
+pub mod Single
 pub mod Refused
+pub mod Demand1
 pub mod AtOnce
 pub mod Bisim
 pub mod Waits
@@ -37,9 +38,10 @@ pub mod Trace
 pub mod Owned
 pub mod Value
 pub mod Fields
-pub mod Steps
+pub mod Arrivals
 pub mod React
 pub mod Keeps
 pub mod Demand3
 pub mod Runs
 pub mod Corollaries
+pub mod Bench

@@ -8,7 +8,7 @@ use lib.Dec.{eqb}
 use Rattle.session.specs.Bus.{byte, Condition, detectorReady, statusReady, started, waitLimit, idleOn}
 use Rattle.session.specs.Instructions.{worst}
 use Rattle.session.specs.Calls.{opsOf, programOf, ceilings, ceilingOf, floors, floorOf}
-use Rattle.session.specs.Claim.{ceilingIn, floorIn, limitIn, unmet}
+use Rattle.session.specs.Claim3.{ceilingIn, floorIn, limitIn, unmet}
 use Rattle.session.proofs.Good.{ceiling-law}
 
 pub claim-ceiling : (code : ℕ) → worst code (opsOf (programOf code)) ≤ ceilingIn code

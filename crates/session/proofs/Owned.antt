@@ -16,7 +16,7 @@ use Rattle.session.specs.Instructions.{Ctx, Op, write, read, wait, range
 use Rattle.session.specs.Steps.{slot}
 use Rattle.session.specs.Calls.{opsOf, programOf}
 use Rattle.session.specs.History.{Exchange, by}
-use Rattle.session.specs.Claim.{wasRead}
+use Rattle.session.specs.Claim3.{wasRead}
 use Rattle.session.proofs.Facts.{both}
 use Rattle.session.proofs.Shape.{asksOp, full, leaps, one-byte}
 use Rattle.session.proofs.Trace.{Track, misses, untouched, GoesOn}

@@ -10,7 +10,7 @@ use Rattle.session.specs.Instructions.{Instruction, Ctx, Verdict, Op, wr
 use Rattle.session.specs.Steps.{slot, pass, opOf}
 use Rattle.session.specs.Calls.{programOf}
 use Rattle.session.specs.History.{Exchange, by, Standing, waiting, ended}
-use Rattle.session.specs.Claim.{rangeFailure, reported, first-out, first-failed, second-out, second-failed, both-good, OnReply, Failures}
+use Rattle.session.specs.Claim3.{rangeFailure, reported, first-out, first-failed, second-out, second-failed, both-good, OnReply, Failures}
 use Rattle.session.proofs.Laws.{clearOps}
 
 abbrev pub IsGood : Reply → Type 0

@@ -14,7 +14,7 @@ use Rattle.session.specs.Steps.{slot}
 use Rattle.session.specs.Calls.{opsOf, programOf, floorOf}
 use Rattle.session.specs.Machine.{Session, sent, ctxOf, keptOf, sending, giving, arrive, decide, react}
 use Rattle.session.specs.History.{Exchange, by}
-use Rattle.session.specs.Claim.{readOf, unmet, idleReads, rangeRead, rangeFailure, reported}
+use Rattle.session.specs.Claim3.{readOf, unmet, idleReads, rangeRead, rangeFailure, reported}
 use Rattle.session.proofs.Facts.{cond-case, drop-next, untrue}
 use Rattle.session.proofs.Good.{Good, Between}
 use Rattle.session.proofs.Bisim.{between-next, idle-more}
@@ -26,7 +26,7 @@ use Rattle.session.proofs.Floor.{floor-next, floor-leap}
 use Rattle.session.proofs.Told.{Told, told-next, told-write, told-again}
 use Rattle.session.proofs.Trace.{trace-skip, GoesOn, trace-step, trace-again, trace-late, length-kept}
 use Rattle.session.proofs.Owned.{own-step, own-again, own-leap}
-use Rattle.session.proofs.Steps.{Match, Ahead, Mid, Fine, held-is, limit-some, same-on, on-self, fine-waiting, arrive-fine, decide-fine}
+use Rattle.session.proofs.Arrivals.{Match, Ahead, Mid, Fine, held-is, limit-some, same-on, on-self, fine-waiting, arrive-fine, decide-fine}
 
 -- the range read is told by the bus
 range-told : (code : ℕ) (op : Op) (rest : List Op) (c : Ctx) → Known code op rest c → rangeRead code (sendOf op c) ≡ isRange op

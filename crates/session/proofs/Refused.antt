@@ -16,11 +16,13 @@ use Rattle.session.specs.Script.{zeroFrom, cleanFrom}
 use Rattle.session.specs.Machine.{Session, Outcome, sent, answered, refused, broken, ctxOf, decide, react, toReply, stray, onOps, idleWrong, upWrong, malformed, waitsNow, illFormed, replyDef, begun, notUp, beginDef, otherDef}
 use Rattle.session.specs.History.{Record, call, reply, other, stepDef}
 use Rattle.session.specs.Refusals.{ranges, inRange, limitRows, lengthRows, most, busy, idleBad, forRecord, refusals, firstOf}
+use Rattle.session.specs.Claim1.{Single, one-refusal, refusalNumber}
 use Rattle.session.proofs.Good.{limit-positive}
 use Rattle.session.proofs.Cut.{stray-is}
 use Rattle.session.proofs.Accepts.{Accepts, decide-accepts, react-accepts}
-use Rattle.session.proofs.Strays.{sound-step, refusalNumber}
+use Rattle.session.proofs.Strays.{sound-step}
 use Rattle.session.proofs.AcceptedIff.{range-is}
+use Rattle.session.proofs.Single.{single}
 
 wrong : {A : Type 0} → false ≡ true → A
 wrong h = let z : _≡_ {A = ℕ} 0 1 = cc in absurd (omega arith)
@@ -214,3 +216,13 @@ refused-by-table s (reply f bs) = go (waitsNow s) (malformed s) refl ∙ sym (ta
     go true true h = refl
     go true false h = on-ops s f bs h
 refused-by-table s other = cond-at refusalNumber (illFormed s) (illFormed s) refl refl refl ∙ sym (table-is s other)
+
+-- and accepted exactly where the table has nothing
+pub not-refused : (s : Session) (r : Record) → firstOf (refusals s r) ≡ 0 → Accepts (stepDef s r)
+not-refused s r e = go (stepDef s r) (single s r) (refused-by-table s r ∙ e)
+  where
+    go : (o : Outcome) → Single s o → refusalNumber o ≡ 0 → Accepts o
+    go (sent t s′) x z = tt
+    go (answered y n s′) x z = tt
+    go (refused y s′) (one-refusal x h k) z = absurd (omega (arith, h))
+    go (broken s′) x z = absurd (omega (arith, z))

@@ -9,7 +9,7 @@ use Rattle.session.specs.Bus.{transferOf, Condition, detectorReady, stat
 use Rattle.session.specs.Instructions.{Ctx, Op, write, read, wait, range, sendOf}
 use Rattle.session.specs.Steps.{slot}
 use Rattle.session.specs.Calls.{Program, opsOf, tuning, programs, programOf}
-use Rattle.session.specs.Claim.{wrote, asks}
+use Rattle.session.specs.Claim3.{wrote, asks}
 use Rattle.session.proofs.Facts.{both}
 use Rattle.session.proofs.Table.{of-table}
 

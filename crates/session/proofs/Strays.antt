@@ -9,13 +9,14 @@ use native.Mathlib.Nat.{not-suc-le-zero, le-of-suc-le-suc}
 use lib.Dec.{eqb, ltb}
 use lib.ListN.{drop}
 use borrow.Author.Tests.{eqb-true, eqb-false, ne-eqb, not-true, not-false}
-use Rattle.session.specs.Bus.{Transfer, Answer, byte, numberOf}
+use Rattle.session.specs.Bus.{Transfer, Answer, byte}
 use Rattle.session.specs.Instructions.{Op, sendOf}
 use Rattle.session.specs.Calls.{opsOf, programOf, ceilingOf, argumentsOk}
 use Rattle.session.specs.Script.{zeroFrom}
-use Rattle.session.specs.Machine.{Session, Outcome, sent, answered, refused, broken, ctxOf, toReply, stray, onOps, idleWrong, upWrong, malformed, waitsNow, illFormed, replyDef}
+use Rattle.session.specs.Machine.{Session, refused, ctxOf, toReply, stray, onOps, idleWrong, upWrong, malformed, waitsNow, illFormed, replyDef}
 use Rattle.session.specs.History.{waiting}
-use Rattle.session.specs.Accepted.{firstOut, Stray, past-length, beside-failure, Refused12}
+use Rattle.session.specs.Claim1.{firstOut, refusalNumber}
+use Rattle.session.specs.Claim2.{Stray, past-length, beside-failure, Refused12}
 use Rattle.session.proofs.Facts.{cond-case, both}
 use Rattle.session.proofs.Cut.{stray-is}
 use Rattle.session.proofs.Accepts.{Accepts, react-accepts}
@@ -69,13 +70,6 @@ sound-step s h =
     let c : Bool = idleWrong (s .code) (drop (s .step) (opsOf (programOf (s .code)))) (s .idle) in
     let d : Bool = eqb (s .transfers) 0 in
     or-parts ab c (or-parts (ab || c) d (or-parts ((ab || c) || d) (ltb (ceilingOf (s .code)) (s .transfers)) h .0) .0) .1
-
--- the number of a refusal
-abbrev pub refusalNumber : Outcome → ℕ
-refusalNumber (sent t s) = 0
-refusalNumber (answered x n s) = 0
-refusalNumber (refused x s) = numberOf x
-refusalNumber (broken s) = 15
 
 pub refused-12 : (s : Session) (f : ℕ) (bs : List ℕ) → (replyDef s f bs ≡ refused Answer.StrayByte s) ↔ Refused12 s f bs
 unfolding replyDef

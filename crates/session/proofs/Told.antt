@@ -13,7 +13,7 @@ use Rattle.session.specs.Instructions.{Ctx, Op, write, read, wait, range
 use Rattle.session.specs.Steps.{slot}
 use Rattle.session.specs.Calls.{opsOf, programOf}
 use Rattle.session.specs.History.{Exchange, by}
-use Rattle.session.specs.Claim.{wrote, asks, awaited, readOf}
+use Rattle.session.specs.Claim3.{wrote, asks, awaited, readOf}
 use Rattle.session.proofs.Facts.{both}
 use Rattle.session.proofs.Shape.{asksOne, waitsOn, sameBool, same-bool, and-false, full, edge, isWrite, Known, known-at, asks-is}
 

@@ -13,7 +13,7 @@ use Rattle.session.specs.Instructions.{Ctx, Op, write, read, wait, range
 use Rattle.session.specs.Steps.{slot}
 use Rattle.session.specs.Calls.{opsOf, programOf}
 use Rattle.session.specs.History.{Exchange, by}
-use Rattle.session.specs.Claim.{wrote, wasRead, firstData}
+use Rattle.session.specs.Claim3.{wrote, wasRead, firstData}
 use Rattle.session.proofs.Facts.{both}
 use Rattle.session.proofs.Slots.{length-from, from-at, under, above, within, length-put}
 use Rattle.session.proofs.Shape.{asksOp, full, leaps, one-byte}

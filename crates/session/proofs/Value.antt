@@ -13,7 +13,7 @@ use Rattle.session.specs.Bus.{Driver, Transfer, Answer, Reply, absent}
 use Rattle.session.specs.Script.{Script, done, send, Raw, dataOf, isClean, cut, heard, play}
 use Rattle.session.specs.RustFn.{Ok}
 use Rattle.session.specs.RustBringUp.{method, number, calls, rust}
-use Rattle.session.specs.Claim.{good1, good2, doneValue, valueOfCall15}
+use Rattle.session.specs.Claim3.{good1, good2, doneValue, valueOfCall15}
 use Rattle.session.proofs.SixReads.{six}
 use Rattle.session.proofs.BudgetCalls.{get-is}
 

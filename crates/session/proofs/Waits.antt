@@ -1,12 +1,18 @@
--- A wait over any limit: it is answered Timeout exactly when it had n replies, one after the other, that were idle reads.
+-- A wait over any limit n: it is answered Timeout exactly when it had n replies, one after the other, that were idle reads,
+-- and so is one read of the machine's.
 use mathlib.Core.Logic.{_↔_}
 use mathlib.Core.Bool.{Bool, true, false, _&&_, cond}
 use mathlib.Core.List.{List, [], _∷_}
-use Prim.Native.Nat.{ℕ, zero, suc}
+use Prim.Native.Nat.{ℕ, zero, suc, _≤_, _<_}
 use lib.Dec.{T, eqb}
-use Rattle.session.specs.Bus.{Driver, Transfer, Answer, Reply, bad, good, numberOf}
+use borrow.Author.Tests.{lt-ltb, le-ltb}
+use mathlib.Core.Path.{_≡_}
+use Rattle.session.specs.Bus.{Driver, Transfer, Answer, Reply, bad, good, Condition, idleOn, numberOf}
+use Rattle.session.specs.Instructions.{wait, sendOf}
+use Rattle.session.specs.Calls.{Program}
 use Rattle.session.specs.Script.{Script, done, onReply, waitLoop, Raw, dataOf, isClean, cut, Trace, sends, refuses, waits, ends, heard, play}
-use Rattle.session.specs.Claim.{If}
+use Rattle.session.specs.Machine.{Session, sent, ctxOf, sending, giving, arrive, waitRead}
+use Rattle.session.specs.Claim3.{If}
 
 abbrev isIdle : (List ℕ → Bool) → Reply → Bool
 isIdle idle (bad e) = false
@@ -47,3 +53,15 @@ module _ (t : Transfer) (idle : List ℕ → Bool) (d : Driver) where
       on true (bad e) ih later = (λ h. absurd h, λ h. absurd (h .0))
       on true (good bs) ih later = go (idle bs) ih
       on false x ih later = later
+
+-- one read of the machine's wait, after j idle reads, for any limit: below it the same read is made again and counted, at it the answer is Timeout;
+-- a read that is not idle goes on, also the last one
+module _ (limit : ℕ) (x : Condition) (p : Program) (s : Session) (bs : List ℕ) where
+  pub idle-again : idleOn x bs ≡ true → suc (s .idle) < limit → waitRead limit x p s bs ≡ sent (sendOf (wait x) (ctxOf s)) (sending (s .step) (suc (s .idle)) s)
+  idle-again h lt = rw (h, lt-ltb (suc (s .idle)) limit lt)
+
+  pub idle-out : idleOn x bs ≡ true → limit ≤ suc (s .idle) → waitRead limit x p s bs ≡ giving Answer.Timeout s
+  idle-out h ge = rw (h, le-ltb (suc (s .idle)) limit ge)
+
+  pub ready-on : idleOn x bs ≡ false → waitRead limit x p s bs ≡ arrive p (suc (s .step)) s
+  ready-on h = rw h

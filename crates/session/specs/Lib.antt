@@ -11,5 +11,7 @@ pub mod RustBringUp
 pub mod Machine
 pub mod History
 pub mod Refusals
-pub mod Accepted
-pub mod Claim
+pub mod Claim1
+pub mod Claim2
+pub mod Claim3
+pub mod Bench

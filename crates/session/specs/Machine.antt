@@ -5,7 +5,7 @@ use Prim.Native.Nat.{ℕ, zero, suc, _+_}
 use lib.Dec.{eqb, ltb, leb}
 use lib.ListN.{drop, replicate}
 pub use Rattle.session.specs.declared.Session.{Session}
-use Rattle.session.specs.Bus.{waitLimit, idleOn, Transfer, Reply, bad, good, Answer, Driver, absent}
+use Rattle.session.specs.Bus.{Condition, waitLimit, idleOn, Transfer, Reply, bad, good, Answer, Driver, absent}
 use Rattle.session.specs.Script.{Trace, sends, refuses, waits, ends, Raw, dataOf}
 use Rattle.session.specs.Instructions.{Ctx, stopAnswer, Verdict, onward, leap, stop, test, Op, write, read, wait, range, Final, success, failure, sendOf, keptBytes, keptFailure, keptBudget, readWins, reportOf}
 use Rattle.session.specs.Calls.{Program, opsOf, programOf, ceilingOf, argumentsOk}
@@ -108,8 +108,15 @@ decide leap p over k s = arrive p (k + over) s
 decide (stop x) p over k s = giving (stopAnswer x) s
 decide (test b v w) p over k s = cond b (decide v p over k s) (decide w p over k s)
 
--- what a reply does to the call that waits at an instruction.
+-- a read of a wait that gives up at `limit` reads.
 -- 01: "The read that reaches the limit idle gives Timeout; ready on that read succeeds."
+abbrev pub waitRead : ℕ → Condition → Program → Session → List ℕ → Outcome
+waitRead limit x p s bs =
+    cond (idleOn x bs)
+    (cond (ltb (suc (s .idle)) limit) (sent (sendOf (wait x) (ctxOf s)) (sending (s .step) (suc (s .idle)) s)) (giving Answer.Timeout s))
+    (arrive p (suc (s .step)) s)
+
+-- what a reply does to the call that waits at an instruction
 abbrev pub react : Op → Program → Session → Reply → Outcome
 react (write reg bytes len over after) p s (bad e) = giving (Answer.BusError (reportOf (readWins (s .code)) (s .failed) (suc e))) s
 react (write reg bytes len over after) p s (good bs) = decide (after (ctxOf s)) p over (suc (s .step)) s
@@ -117,12 +124,7 @@ react (read reg len slot over after) p s (bad e) = giving (Answer.BusError (suc 
 react (read reg len slot over after) p s (good bs) =
     decide (after (ctxOf (keptOf s (read reg len slot over after) (good bs)))) p over (suc (s .step)) (keptOf s (read reg len slot over after) (good bs))
 react (wait x) p s (bad e) = giving (Answer.BusError (suc e)) s
-react (wait x) p s (good bs) =
-    cond (idleOn x bs)
-    (cond (ltb (suc (s .idle)) (waitLimit (s .code) x))
-    (sent (sendOf (wait x) (ctxOf s)) (sending (s .step) (suc (s .idle)) s))
-    (giving Answer.Timeout s))
-    (arrive p (suc (s .step)) s)
+react (wait x) p s (good bs) = waitRead (waitLimit (s .code) x) x p s bs
 react range p s (bad e) = arrive p (suc (s .step)) (keptOf s range (bad e))
 react range p s (good bs) = arrive p (suc (s .step)) (keptOf s range (good bs))
 

@@ -127,6 +127,6 @@ atOnce code a b =
     ∷ []
 
 -- none where the call makes a transfer
-abbrev pub firstAnswer : List (Bool × ℕ × ℕ) → Option (ℕ × ℕ)
+abbrev pub firstAnswer : List (Bool × ℕ × ℕ) → Option (ℕ × ℕ × ℕ)
 firstAnswer [] = none
-firstAnswer (x ∷ xs) = cond (x .0) (some (x .1, x .2)) (firstAnswer xs)
+firstAnswer (x ∷ xs) = cond (x .0) (some (x .1, x .2, 0)) (firstAnswer xs)

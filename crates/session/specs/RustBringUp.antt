@@ -193,6 +193,10 @@ constructor address m =
     m (record { address = address; stop-variable = 0; measurement-timing-budget-microseconds = 0 })
     (λ r c. onResult r (λ u. done (Answer.Done 0) (driverFrom true c)) (λ e. done e absent))
 
+-- lib.rs: new, with DEFAULT_ADDRESS
+abbrev pub new : Script
+new = constructor 0x29 with-address
+
 -- 01: "Done's value: the Rust's number for calls 2, 6, 7, 8 and 15; low × 65536 + high for call 11; else 0. `Ok(true)` is Done, `Ok(false)` answer 1."
 abbrev pub number : ℕ → Answer
 number n = Answer.Done n

@@ -6,10 +6,12 @@ use mathlib.Core.List.{List, [], _∷_}
 use Prim.Native.Nat.{ℕ, zero, suc, _+_, _%_, _≤_}
 use lib.Dec.{eqb, T}
 use lib.ListN.{length, getD}
-use Rattle.session.specs.Bus.{failureIn, dataIn, Condition, detectorReady, statusReady, started, byte, Transfer, bytesOf, Reply, bad, good, Answer, numberOf, valuesOf, Driver, absent, withAddress, withBudget}
-use Rattle.session.specs.Script.{Trace, sends, refuses, waits, ends, Raw, play}
-use Rattle.session.specs.RustBringUp.{rust}
-use Rattle.session.specs.History.{recordsOf, isWhole, Run, inOrder, countsOf, Exchange, by, Standing, waiting, ended, CallRun, isWaiting, callsOf, transfersIn, repliesIn, callsIn, refusedIn, answersIn, waitingIn, transfersOf}
+use Rattle.session.specs.Bus.{Driver, Transfer, Answer, byte, bytesOf, Reply, bad, good, failureIn, dataIn, Condition, detectorReady, statusReady, started, numberOf, valuesOf, absent, withAddress, withBudget}
+use Rattle.session.specs.Instructions.{stop, failure}
+use Rattle.session.specs.Script.{Raw, Trace, sends, refuses, waits, ends, heard, play}
+use Rattle.session.specs.RustBringUp.{calls, rust}
+use Rattle.session.specs.Machine.{begun}
+use Rattle.session.specs.History.{recordsOf, isWhole, answer, callsIn, answersIn, repliesIn, transfersIn, refusedIn, countsOf, Run, inOrder, Exchange, by, Standing, waiting, ended, CallRun, callsOf, isWaiting, waitingIn, transfersOf}
 
 abbrev pub bytesAre : List ℕ → List ℕ → Bool
 bytesAre [] [] = true
@@ -45,11 +47,18 @@ abbrev pub awaited : List Exchange → Bool
 awaited [] = false
 awaited (e ∷ es) = cond (asks 0x83 (e .sent)) (awaited es) (wrote (0x83 ∷ 0x00 ∷ []) (e .sent))
 
+-- the calls that wait for the status, for the start
+abbrev pub awaitsStatus : ℕ → Bool
+awaitsStatus code = eqb code 1 || eqb code 7 || eqb code 8
+
+abbrev pub awaitsStart : ℕ → Bool
+awaitsStart code = eqb code 8
+
 -- a transfer, after the exchanges es of its call, is a read of a wait: the plain reads of 0x83 in a bring-up and of 0x13 in call 6 are none
 abbrev pub readOf : Condition → ℕ → Transfer → List Exchange → Bool
 readOf detectorReady code t es = (asks 0x83 t && eqb code 1) && awaited es
-readOf statusReady code t es = asks 0x13 t && (eqb code 1 || eqb code 7 || eqb code 8)
-readOf started code t es = asks 0x00 t && eqb code 8
+readOf statusReady code t es = asks 0x13 t && awaitsStatus code
+readOf started code t es = asks 0x00 t && awaitsStart code
 
 -- 01: "A read of a wait is idle if its reply has no failure and shows the condition unmet; a failed read is not idle."
 unfoldable pub unmet : Condition → List ℕ → Bool
@@ -82,8 +91,11 @@ TimeoutRule c =
 -- FAILURE. "A failed transfer ended its call at its reply, except a failed range read: its call followed that with clearing the interrupt,
 -- as far as the list's replies took it, and with nothing else."
 -- 01: "a range read is the read of the range word in calls 6, 7 and 8"
+abbrev pub readsRange : ℕ → Bool
+readsRange code = eqb code 6 || eqb code 7 || eqb code 8
+
 abbrev pub rangeRead : ℕ → Transfer → Bool
-rangeRead code t = wrote (0x1E ∷ []) t && (eqb code 6 || eqb code 7 || eqb code 8)
+rangeRead code t = wrote (0x1E ∷ []) t && readsRange code
 
 -- the failure code of the last range read among the exchanges, 0 where it succeeded or there is none
 abbrev pub rangeFailure : ℕ → List Exchange → ℕ
@@ -91,9 +103,12 @@ rangeFailure code [] = 0
 rangeFailure code (e ∷ es) = cond (rangeRead code (e .sent)) (failureIn (e .reply)) (rangeFailure code es)
 
 -- 01: "If clearing fails too, call 6 reports the read's code, calls 7 and 8 the clearing's."
+abbrev pub reportsRead : ℕ → Bool
+reportsRead code = eqb code 6
+
 abbrev pub reported : ℕ → ℕ → ℕ → ℕ
 reported code zero e = e
-reported code (suc k) e = cond (eqb code 6) (suc k) e
+reported code (suc k) e = cond (reportsRead code) (suc k) e
 
 abbrev pub Clears : Transfer → ℕ → Type 0
 Clears t b = bytesOf t ≡ 0x0B ∷ b ∷ []

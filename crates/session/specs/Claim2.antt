@@ -1,15 +1,17 @@
--- Demand 2's words: which calls are accepted, in 01's own numbers, and which replies are refused.
+-- Demand 2: "For every session, accepted call and list of bus replies [..] equality with [the Rust] in each transfer's bytes and order, in the answer
+-- and in the driver's fields [..]. Where the Rust panics, the same transfers and then answer 8."
 use mathlib.Core.Path.{_≡_}
 use mathlib.Core.Bool.{true, false}
 use mathlib.Core.List.{List, [], _∷_}
 use Prim.Native.Nat.{ℕ, _≤_}
 use lib.ListN.{drop}
-use Rattle.session.specs.Bus.{Transfer, byte, transferOf}
-use Rattle.session.specs.Instructions.{Ctx, Op, sendOf}
-use Rattle.session.specs.Calls.{opsOf, programOf}
-use Rattle.session.specs.Machine.{Session, ctxOf, stray, malformed}
+use Rattle.session.specs.Bus.{byte}
+use Rattle.session.specs.Script.{Raw, play}
+use Rattle.session.specs.RustBringUp.{rust}
+use Rattle.session.specs.Machine.{Session, stray, malformed, beginDef, drive}
 use Rattle.session.specs.History.{waiting}
 use Rattle.session.specs.Refusals.{ranges, inRange}
+use Rattle.session.specs.Claim1.{outstanding}
 
 -- the session is up, or the call is a bring-up
 pub data Ready (s : Session) : ℕ → Type 0 where
@@ -21,13 +23,10 @@ pub record Accepted (s : Session) (code a b : ℕ) : Type 0 where
   pub arguments : inRange code a b ranges ≡ true
   pub ready : Ready s code
 
--- the transfer that a waiting session has out
-abbrev pub firstOut : List Op → Ctx → Transfer
-firstOut [] c = transferOf 0 [] 0
-firstOut (op ∷ ops) c = sendOf op c
-
-abbrev pub outstanding : Session → Transfer
-outstanding s = firstOut (drop (s .step) (opsOf (programOf (s .code)))) (ctxOf s)
+-- what is seen of the machine over the replies is what is seen of the Rust: transfers, refused replies, the answer and the fields at its end.
+-- A panic of the Rust is its answer 8 with the place
+abbrev pub Demand2 : Session → ℕ → ℕ → ℕ → List Raw → Type 0
+Demand2 s code a b replies = drive replies (beginDef s code a b) ≡ play (rust (s .driver) code a b) replies
 
 -- a data byte that is not zero, past the read length or beside a failure
 pub data Stray (reads f : ℕ) (bs : List ℕ) : Type 0 where

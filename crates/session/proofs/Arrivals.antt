@@ -14,7 +14,7 @@ use Rattle.session.specs.Steps.{slot}
 use Rattle.session.specs.Calls.{opsOf, programOf, floorOf}
 use Rattle.session.specs.Machine.{Session, Outcome, sent, answered, refused, broken, resting, heldBy, ctxOf, sending, giving, conclude, enter, arrive, decide}
 use Rattle.session.specs.History.{Exchange, Standing, waiting, ended, CallRun}
-use Rattle.session.specs.Claim.{limitIn, idleReads, rangeFailure, Failures, budgetOfFirst, afterDone, afterBegun, Lawful}
+use Rattle.session.specs.Claim3.{limitIn, idleReads, rangeFailure, Failures, budgetOfFirst, afterDone, afterBegun, Lawful}
 use Rattle.session.proofs.Facts.{cond-case, untrue}
 use Rattle.session.proofs.Good.{limit-positive, Good, Between, arrive-good, wait-left}
 use Rattle.session.proofs.Bisim.{between-skip}

@@ -1,0 +1,67 @@
+-- Every transfer of every call writes one to seven bytes and reads 0, 1, 2 or 6.
+use mathlib.Core.Path.{_≡_, refl, subst, ap}
+use mathlib.Core.Bool.{Bool, true, _&&_}
+use mathlib.Core.List.{List, [], _∷_}
+use Prim.Native.Nat.{ℕ, zero, suc, _≤_}
+use native.Mathlib.Omega.{arith}
+use native.Mathlib.Nat.{le-of-suc-le-suc}
+use borrow.Author.Tests.{leb-true}
+use lib.Dec.{leb}
+use lib.ListN.{length, drop}
+use Rattle.session.specs.Bus.{padTo, transferOf, waitRegister}
+use Rattle.session.specs.Instructions.{Ctx, Op, write, read, wait, range, sendOf}
+use Rattle.session.specs.Steps.{slot}
+use Rattle.session.specs.Calls.{Program, opsOf, tuning, programs, programOf}
+use Rattle.session.specs.Script.{zeroFrom}
+use Rattle.session.specs.Claim1.{isLength, OnTheBus}
+use Rattle.session.proofs.Facts.{both}
+use Rattle.session.proofs.Table.{of-table}
+
+abbrev sized : Op → Ctx → Bool
+sized (write reg bytes len over after) c = leb (length (bytes c)) 6 && isLength len
+sized (read reg len slot over after) c = isLength len
+sized (wait w) c = true
+sized range c = true
+
+abbrev allSized : List Op → Ctx → Bool
+allSized [] c = true
+allSized (op ∷ ops) c = sized op c && allSized ops c
+
+abbrev SizedOk : ℕ → Program → Type 0
+SizedOk code p = (c : Ctx) → allSized (opsOf p) c ≡ true
+
+sized-law : (code : ℕ) (c : Ctx) → allSized (opsOf (programOf code)) c ≡ true
+unfolding programs tuning
+sized-law =
+    of-table SizedOk (λ k c. refl)
+    (λ c. refl, (λ c. refl, (λ c. refl, (λ c. refl, (λ c. refl, (λ c. refl, (λ c. refl, (λ c. refl, (λ c. refl, (λ c. refl, (λ c. refl, (λ c. refl, (λ c. refl, (λ c. refl, (λ c. refl, (λ c. refl, tt))))))))))))))))
+
+sized-at : (k : ℕ) (l : List Op) (c : Ctx) {op : Op} {rest : List Op} → allSized l c ≡ true → drop k l ≡ op ∷ rest → sized op c ≡ true
+sized-at zero [] c h e = let z : _≡_ {A = ℕ} 0 1 = cc in absurd (omega arith)
+sized-at zero (x ∷ l) c {op} h e = let q : x ≡ op = cc in subst (λ o. sized o c ≡ true) q (both (sized x c) (allSized l c) h .0)
+sized-at (suc k) [] c h e = let z : _≡_ {A = ℕ} 0 1 = cc in absurd (omega arith)
+sized-at (suc k) (x ∷ l) c h e = sized-at k l c (both (sized x c) (allSized l c) h .1) e
+
+padded : (n : ℕ) (bs : List ℕ) → zeroFrom (length bs) (padTo n bs) ≡ true
+padded zero bs = refl
+padded (suc n) [] = padded n []
+padded (suc n) (b ∷ bs) = padded n bs
+
+seven : (n : ℕ) (bs : List ℕ) → length (padTo n bs) ≡ n
+seven zero bs = refl
+seven (suc n) [] = ap suc (seven n [])
+seven (suc n) (b ∷ bs) = ap suc (seven n bs)
+
+made : (adr reg n : ℕ) (bs : List ℕ) → length bs ≤ 6 → isLength n ≡ true → OnTheBus (transferOf adr (reg ∷ bs) n)
+made adr reg n bs h r = record { some-byte = omega arith; at-most-seven = omega arith; room = seven 7 (reg ∷ bs); rest-zero = padded 7 (reg ∷ bs); read-length = r }
+
+pub on-the-bus : (code k : ℕ) (op : Op) (rest : List Op) (c : Ctx) → drop k (opsOf (programOf code)) ≡ op ∷ rest → OnTheBus (sendOf op c)
+on-the-bus code k op rest c e = go op (sized-at k (opsOf (programOf code)) c (sized-law code c) e)
+  where
+    go : (o : Op) → sized o c ≡ true → OnTheBus (sendOf o c)
+    go (write reg bytes len over after) h =
+        let q = both (leb (length (bytes c)) 6) (isLength len) h in
+        made (c .address) reg len (bytes c) (leb-true (length (bytes c)) 6 (q .0)) (q .1)
+    go (read reg len slot over after) h = made (c .address) reg len [] (omega arith) h
+    go (wait w) h = made (c .address) (waitRegister w) 1 [] (omega arith) refl
+    go range h = made (c .address) 0x1E 2 [] (omega arith) refl

@@ -1,0 +1,66 @@
+-- Demand 1: "One transfer or numbered answer, fixed by document 01, meets every session, record and slice of records;
+-- a refusal makes no transfer and changes neither the session nor any lent byte."
+use mathlib.Core.Path.{_≡_}
+use mathlib.Core.Bool.{Bool, true, _||_}
+use mathlib.Core.List.{List, [], _∷_}
+use mathlib.Core.Option.{Option, some, none}
+use Prim.Native.Nat.{ℕ, _≤_}
+use lib.Dec.{eqb}
+use lib.ListN.{length, drop}
+use Rattle.session.specs.Bus.{Transfer, Answer, byte, transferOf, numberOf, valuesOf}
+use Rattle.session.specs.Instructions.{Ctx, Op, sendOf}
+use Rattle.session.specs.Calls.{opsOf, programOf}
+use Rattle.session.specs.Script.{zeroFrom}
+use Rattle.session.specs.Machine.{Session, Outcome, sent, answered, refused, broken, resting, ctxOf, beginDef}
+use Rattle.session.specs.History.{Record, call, stepDef}
+use Rattle.session.specs.Refusals.{refusals, firstOf, atOnce, firstAnswer}
+
+-- the transfer that a waiting session has out
+abbrev pub firstOut : List Op → Ctx → Transfer
+firstOut [] c = transferOf 0 [] 0
+firstOut (op ∷ ops) c = sendOf op c
+
+abbrev pub outstanding : Session → Transfer
+outstanding s = firstOut (drop (s .step) (opsOf (programOf (s .code)))) (ctxOf s)
+
+-- 01: "A transfer has an address, 1..7 written bytes and a read length 0, 1, 2 or 6."
+abbrev pub isLength : ℕ → Bool
+isLength n = eqb n 0 || eqb n 1 || eqb n 2 || eqb n 6
+
+pub record OnTheBus (t : Transfer) : Type 0 where
+  pub some-byte : 1 ≤ t .count
+  pub at-most-seven : t .count ≤ 7
+  pub room : length (t .written) ≡ 7
+  pub rest-zero : zeroFrom (t .count) (t .written) ≡ true
+  pub read-length : isLength (t .reads) ≡ true
+
+-- what an outcome is: a transfer that the session then has out, an answer 0 to 8 that leaves nothing carried,
+-- or a refusal 9 to 13 or 15 that keeps the session
+pub data Single (s : Session) : Outcome → Type 0 where
+  one-transfer : (t : Transfer) (s′ : Session) → OnTheBus t → t ≡ outstanding s′ → Single s (sent t s′)
+  one-answer : (x : Answer) (n : ℕ) (s′ : Session) → numberOf x ≤ 8 → s′ ≡ resting (s′ .driver) → Single s (answered x n s′)
+  one-refusal : (x : Answer) → 9 ≤ numberOf x → numberOf x ≤ 13 → Single s (refused x s)
+  ill-formed : Single s (broken s)
+
+-- the number of a refusal, 0 where an outcome is none
+abbrev pub refusalNumber : Outcome → ℕ
+refusalNumber (sent t s) = 0
+refusalNumber (answered x n s) = 0
+refusalNumber (refused x s) = numberOf x
+refusalNumber (broken s) = 15
+
+-- the number, the first value and the transfers figure of an answer, none for a transfer
+abbrev pub answerShown : Outcome → Option (ℕ × ℕ × ℕ)
+answerShown (sent t s) = none
+answerShown (answered x n s) = some (numberOf x, byte 0 (valuesOf x), n)
+answerShown (refused x s) = some (numberOf x, 0, 0)
+answerShown (broken s) = some (15, 0, 0)
+
+-- a record of one session: what it gets is fixed, and refused exactly by 01's table
+pub record Demand1 (s : Session) (r : Record) : Type 0 where
+  pub single : Single s (stepDef s r)
+  pub refused : refusalNumber (stepDef s r) ≡ firstOf (refusals s r)
+
+-- a call that the table does not refuse is answered at once by its rows 5, 6 and the first 1, with no transfer made; else it makes its first transfer
+abbrev pub AtOnce : Session → ℕ → ℕ → ℕ → Type 0
+AtOnce s code a b = firstOf (refusals s (call code a b)) ≡ 0 → answerShown (beginDef s code a b) ≡ firstAnswer (atOnce code a b)
