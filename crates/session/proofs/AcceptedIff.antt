@@ -23,10 +23,23 @@ beyond : (code : ℕ) → 16 ≤ code → Same code
 unfolding argumentsOk
 beyond code h a b =
     rw (
-      lt-leb code 15 (omega arith), and-false (leb 1 code),
-      ne-eqb code 1 (λ e. omega arith), ne-eqb code 2 (λ e. omega arith), ne-eqb code 3 (λ e. omega arith), ne-eqb code 4 (λ e. omega arith), ne-eqb code 5 (λ e. omega arith),
-      ne-eqb code 6 (λ e. omega arith), ne-eqb code 7 (λ e. omega arith), ne-eqb code 8 (λ e. omega arith), ne-eqb code 9 (λ e. omega arith), ne-eqb code 10 (λ e. omega arith),
-      ne-eqb code 11 (λ e. omega arith), ne-eqb code 12 (λ e. omega arith), ne-eqb code 13 (λ e. omega arith), ne-eqb code 14 (λ e. omega arith), ne-eqb code 15 (λ e. omega arith),
+      lt-leb code 15 (omega arith),
+      and-false (leb 1 code),
+      ne-eqb code 1 (λ e. omega arith),
+      ne-eqb code 2 (λ e. omega arith),
+      ne-eqb code 3 (λ e. omega arith),
+      ne-eqb code 4 (λ e. omega arith),
+      ne-eqb code 5 (λ e. omega arith),
+      ne-eqb code 6 (λ e. omega arith),
+      ne-eqb code 7 (λ e. omega arith),
+      ne-eqb code 8 (λ e. omega arith),
+      ne-eqb code 9 (λ e. omega arith),
+      ne-eqb code 10 (λ e. omega arith),
+      ne-eqb code 11 (λ e. omega arith),
+      ne-eqb code 12 (λ e. omega arith),
+      ne-eqb code 13 (λ e. omega arith),
+      ne-eqb code 14 (λ e. omega arith),
+      ne-eqb code 15 (λ e. omega arith),
     )
 
 each : AllBelow Same 0 16

@@ -4,10 +4,8 @@ use mathlib.Core.Bool.{Bool, true, false, cond}
 use mathlib.Core.List.{List, [], _∷_}
 use Prim.Native.Nat.{ℕ, suc, _+_, _-_, _≤_, _<_}
 use native.Mathlib.Omega.{arith}
-use native.Mathlib.Bridge.{le-by-compare, IsLe}
 use lib.Dec.{eqb}
 use lib.ListN.{length, drop}
-use borrow.Author.Tests.{eqb-true}
 use Rattle.session.specs.Bus.{Driver, Transfer, Answer, Condition, detectorReady, statusReady, started, sameOn, numberOf, valuesOf, absent}
 use Rattle.session.specs.Instructions.{Stop, declines, wrongDevice, wrongAddress, wrongArgument, unready, panics, stopAnswer, Verdict, onward, leap, stop, test, Op, write, read, wait, range, Final, success, failure, sendOf}
 use Rattle.session.specs.Steps.{slot}

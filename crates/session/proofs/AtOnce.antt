@@ -1,12 +1,10 @@
 -- An accepted call is answered at once exactly by 01's rows for 5, 6 and the first 1; else it makes a transfer.
-use mathlib.Core.Path.{_≡_, refl, _∙_, sym}
-use mathlib.Core.Bool.{Bool, true, false, not, _||_, _&&_, cond}
-use mathlib.Core.Option.{Option, some, none}
+use mathlib.Core.Path.{_≡_, refl, _∙_}
+use mathlib.Core.Bool.{Bool, true, false, _||_, _&&_, cond}
+use mathlib.Core.Option.{Option}
 use Prim.Native.Nat.{ℕ}
-use lib.Dec.{eqb, ltb}
+use lib.Dec.{ltb}
 use lib.Ieee.{binary32, round, ofBits, le}
-use mathlib.Core.List.{List, [], _∷_}
-use lib.ListN.{drop}
 use Rattle.rate.specs.Rate.{signalRateLimitWord, rateOf, inRange, literal}
 use Rattle.session.specs.Calls.{tuning, programs, programOf, argumentsOk}
 use Rattle.session.specs.Machine.{Session, Outcome, ctxOf, arrive, decide, begun, beginDef}

@@ -1,9 +1,5 @@
 -- The values of 01, computed from the definitions.
 use mathlib.Core.Path.{_≡_, refl}
-use mathlib.Core.Bool.{true}
-use mathlib.Core.List.{List, [], _∷_}
-use Prim.Native.Nat.{ℕ, _+_}
-use lib.Seq.{sets}
 use Rattle.session.specs.Bus.{Driver}
 use Rattle.session.specs.Calls.{tuning, programs, programOf, defaultAddress, ceilings, ceilingOf, greatest, argumentsOk}
 use Rattle.session.specs.RustBringUp.{new, calls, rust}

@@ -1,7 +1,7 @@
 -- The machine is the script of its instructions, on every list of replies.
 use mathlib.Core.Path.{_≡_, refl, sym, ap, _∙_}
 use mathlib.Core.Bool.{Bool, true, false, not, cond}
-use mathlib.Core.List.{List, [], _∷_, _++_}
+use mathlib.Core.List.{List, [], _∷_}
 use Prim.Native.Nat.{ℕ, zero, suc, _+_, _-_, _≤_, _<_}
 use native.Mathlib.Nat.{sub-zero}
 use native.Mathlib.Omega.{arith}
@@ -227,8 +227,8 @@ out s range rest g = refl
 in-wait : (s : Session) (w : Condition) (k : Script) (fail : ℕ → Script) (o : Script) (n : ℕ) (r : Raw) (rs : List Raw) → 1 ≤ n
     → heard (waitLoop n (sendOf (wait w) (ctxOf s)) (idleOn w) fail o k) (r ∷ rs)
     ≡ taken (sendOf (wait w) (ctxOf s)) r
-      (hears (waitLoop n (sendOf (wait w) (ctxOf s)) (idleOn w) fail o k) (cut (sendOf (wait w) (ctxOf s)) (r .failure) (dataOf r)) rs)
-      (heard (waitLoop n (sendOf (wait w) (ctxOf s)) (idleOn w) fail o k) rs)
+    (hears (waitLoop n (sendOf (wait w) (ctxOf s)) (idleOn w) fail o k) (cut (sendOf (wait w) (ctxOf s)) (r .failure) (dataOf r)) rs)
+    (heard (waitLoop n (sendOf (wait w) (ctxOf s)) (idleOn w) fail o k) rs)
 unfolding heard play waitLoop
 in-wait s w k fail o zero r rs h = absurd (omega arith)
 in-wait s w k fail o (suc m) r rs h = refl
@@ -236,8 +236,8 @@ in-wait s w k fail o (suc m) r rs h = refl
 into : (s : Session) (op : Op) (rest : List Op) → Good s op rest → (r : Raw) (rs : List Raw)
     → heard (resumeIn (finOf s) (s .idle) op rest (ctxOf s)) (r ∷ rs)
     ≡ taken (sendOf op (ctxOf s)) r
-      (hears (resumeIn (finOf s) (s .idle) op rest (ctxOf s)) (cut (sendOf op (ctxOf s)) (r .failure) (dataOf r)) rs)
-      (heard (resumeIn (finOf s) (s .idle) op rest (ctxOf s)) rs)
+    (hears (resumeIn (finOf s) (s .idle) op rest (ctxOf s)) (cut (sendOf op (ctxOf s)) (r .failure) (dataOf r)) rs)
+    (heard (resumeIn (finOf s) (s .idle) op rest (ctxOf s)) rs)
 unfolding heard play
 into s (write reg bytes len over after) rest g r rs = refl
 into s (read reg len slot over after) rest g r rs = refl

@@ -6,15 +6,15 @@ use native.Mathlib.Omega.{arith}
 use native.Mathlib.Nat.{add-zero}
 use lib.Dec.{eqb, ltb}
 use borrow.Author.Tests.{ltb-false, le-ltb}
-use Rattle.clock.specs.Clock.{mclksOf, calcMacroPeriod}
+use Rattle.clock.specs.Clock.{mclksOf}
 use Rattle.timing.specs.declared.TimingRegisters.{TimingRegisters}
 use Rattle.timing.specs.declared.PlaceOr.{PlaceOr}
 use Rattle.timing.specs.Registers.{sequenceStepEnables, whenOn}
-use Rattle.timing.specs.Timeouts.{timeIn, timeoutClocks, periodClocks, preShare}
+use Rattle.timing.specs.Timeouts.{timeIn, timeoutClocks, preShare}
 use Rattle.timing.specs.Places.{firstPlace}
 use Rattle.budget.specs.declared.DssTerm.{DssTerm}
 use Rattle.budget.specs.Sums.{budgetSum, usedSum}
-use Rattle.budget.specs.Budget.{measurementTimingBudget, wordOfSum, withPre, wordWithin, finalRangeWord}
+use Rattle.budget.specs.Budget.{measurementTimingBudget, wordOfSum, wordWithin, finalRangeWord}
 use Rattle.session.specs.Bus.{Answer}
 use Rattle.session.specs.Steps.{wordIn}
 use Rattle.session.specs.RustFn.{ok, err, Fn, _>>=_, _>>_, Ok, panic, if, set-self-budget, write-16bit}

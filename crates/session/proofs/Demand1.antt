@@ -3,6 +3,7 @@ use Rattle.session.specs.History.{Record}
 use Rattle.session.specs.Claim1.{Demand1}
 use Rattle.session.proofs.Single.{single}
 use Rattle.session.proofs.Refused.{refused-by-table}
+
 -- Demand 1, of every session and record.
 
 pub demand-1 : (s : Session) (r : Record) → Demand1 s r

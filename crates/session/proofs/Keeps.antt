@@ -1,8 +1,8 @@
 -- One record keeps the laws of the history: the session, the calls so far and the counts go together.
-use mathlib.Core.Path.{_≡_, refl, sym, ap, subst, _∙_}
+use mathlib.Core.Path.{_≡_, refl, ap, subst, _∙_}
 use mathlib.Core.Bool.{true, false, not, cond}
 use mathlib.Core.List.{List, [], _∷_}
-use Prim.Native.Nat.{ℕ, _≤_, zero, suc, _+_, _-_}
+use Prim.Native.Nat.{ℕ, zero, suc, _+_, _-_}
 use native.Mathlib.Omega.{arith}
 use lib.Dec.{eqb}
 use lib.ListN.{length, replicate}
@@ -190,4 +190,3 @@ unfolding stepDef
 step-ok s cs t r (call code a b) i = begin-ok s code a b cs t r i (i .now)
 step-ok s cs t r (reply f bs) i = answer-ok s f bs cs t r i (i .now)
 step-ok s cs t r other i = other-ok s cs t r i (i .now)
-

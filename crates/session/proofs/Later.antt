@@ -1,7 +1,7 @@
 -- Bytes that are kept later leave the earlier replies alone: what was clear stays clear.
 use mathlib.Core.Path.{_≡_, refl, sym, ap, _∙_}
-use mathlib.Core.List.{List, [], _∷_}
-use Prim.Native.Nat.{ℕ, zero, suc, _+_, _≤_, _<_}
+use mathlib.Core.List.{List}
+use Prim.Native.Nat.{ℕ, zero, suc, _+_, _≤_}
 use native.Mathlib.Omega.{arith}
 use Rattle.timing.specs.declared.PlaceOr.{PlaceOr}
 use Rattle.timing.specs.Registers.{registersOf}

@@ -1,7 +1,7 @@
 -- The laws of the calls that demand 3 rests on. A new call has to meet these, and nothing else of the proof changes:
 -- its ceiling (`Good.ceiling-law`), the shape of its transfers (`Shape.steady-law`), what follows a range read, and the fields that it leaves.
 use mathlib.Core.Path.{_≡_, refl, subst}
-use mathlib.Core.Bool.{Bool, true, false, cond}
+use mathlib.Core.Bool.{cond}
 use mathlib.Core.List.{List, [], _∷_, map}
 use Prim.Native.Nat.{ℕ, zero, suc}
 use native.Mathlib.Omega.{arith}

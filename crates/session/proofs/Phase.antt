@@ -1,6 +1,6 @@
 -- The failures of a call so far: none, or a failed range read and the clearing writes after it.
 use mathlib.Core.Path.{_≡_, refl, sym, subst}
-use mathlib.Core.Bool.{Bool, true, _||_}
+use mathlib.Core.Bool.{true, _||_}
 use mathlib.Core.List.{List, [], _∷_}
 use Prim.Native.Nat.{ℕ, suc}
 use native.Mathlib.Omega.{arith}

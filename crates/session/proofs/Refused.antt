@@ -1,13 +1,13 @@
 -- One record meeting one session is refused exactly by 01's table.
 use mathlib.Core.Path.{_≡_, refl, sym, ap, subst, _∙_}
 use mathlib.Core.Bool.{Bool, true, false, not, _||_, _&&_, cond}
-use mathlib.Core.List.{List, [], _∷_, _++_}
+use mathlib.Core.List.{List, [], _∷_}
 use Prim.Native.Nat.{ℕ, zero, suc, _+_, _≤_}
 use native.Mathlib.Omega.{arith}
 use native.Mathlib.Nat.{add-zero, zero-add, add-suc, suc-add}
 use lib.Dec.{eqb, ltb, leb}
-use lib.ListN.{length, getD, drop, replicate}
-use borrow.Author.Tests.{eqb-true, ne-eqb, leb-true, le-leb, lt-leb}
+use lib.ListN.{length, getD, drop}
+use borrow.Author.Tests.{ne-eqb, leb-true, le-leb, lt-leb}
 use Rattle.session.specs.Bus.{Answer, waitLimit}
 use Rattle.session.specs.Instructions.{Op, write, read, wait, range, sendOf}
 use Rattle.session.specs.Steps.{slot}

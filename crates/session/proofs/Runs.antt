@@ -1,11 +1,10 @@
 -- A run from any session: it answers 14 or 15 with the session as given, or 0 with a history of the list's records in order.
-use mathlib.Core.Path.{_≡_, refl, subst, sym, ap, _∙_}
-use mathlib.Core.Bool.{true, false, not, _&&_, cond}
+use mathlib.Core.Path.{_≡_, refl}
+use mathlib.Core.Bool.{true, false}
 use mathlib.Core.List.{List, [], _∷_}
 use Prim.Native.Nat.{ℕ, _+_}
 use native.Mathlib.Omega.{arith}
 use lib.ListN.{length}
-use lib.Dec.{eqb}
 use Rattle.session.specs.Bus.{Answer}
 use Rattle.session.specs.Machine.{Session, Outcome, sent, answered, refused, broken, illFormed, otherDef}
 use Rattle.session.specs.History.{Record, call, reply, other, recordsOf, isWhole, stepDef, transfer, answer, refusal, Entry, callsIn, repliesIn, refusedIn, countsOf, Run, stopped, taking, runFrom, runRecords, runDef, inOrder}

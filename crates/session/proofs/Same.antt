@@ -1,7 +1,7 @@
 -- The instructions of each call, each test made once, are its Rust function.
 use mathlib.Core.Path.{_≡_, refl, fun-ext}
 use mathlib.Core.Bool.{Bool, true, false, not}
-use mathlib.Core.List.{List, [], _∷_, map}
+use mathlib.Core.List.{[], _∷_, map}
 use Prim.Native.Nat.{ℕ}
 use lib.Dec.{eqb, ltb}
 use Rattle.spad.specs.Map.{bitsOf, byteOf, selected}

@@ -1,8 +1,8 @@
 -- What the table of calls says of each instruction: which transfers write one byte, and which of those are reads of a wait or the range read.
 use mathlib.Core.Path.{_≡_, refl, sym, ap}
 use mathlib.Core.Bool.{Bool, true, false, not, _||_, _&&_, cond}
-use mathlib.Core.List.{List, [], _∷_, _++_}
-use Prim.Native.Nat.{ℕ, zero, suc, _+_}
+use mathlib.Core.List.{List, [], _∷_}
+use Prim.Native.Nat.{ℕ, zero, suc}
 use lib.Dec.{eqb}
 use lib.ListN.{drop}
 use Rattle.session.specs.Bus.{transferOf, Condition, detectorReady, statusReady, started, waitRegister, sameOn}

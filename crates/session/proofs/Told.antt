@@ -2,11 +2,10 @@
 use mathlib.Core.Path.{_≡_, refl, sym, _∙_}
 use mathlib.Core.Bool.{Bool, true, false, not, _&&_, cond}
 use mathlib.Core.List.{List, [], _∷_}
-use Prim.Native.Nat.{ℕ, _≤_}
+use Prim.Native.Nat.{ℕ}
 use native.Mathlib.Omega.{arith}
 use lib.Dec.{eqb}
-use native.Mathlib.Nat.{le-trans, min-le-left, min-le-right}
-use lib.ListN.{drop, getD}
+use lib.ListN.{drop}
 use borrow.Author.Tests.{not-true}
 use Rattle.session.specs.Bus.{Reply, Condition, detectorReady, statusReady, started, sameOn}
 use Rattle.session.specs.Instructions.{Ctx, Op, write, read, wait, range, sendOf}

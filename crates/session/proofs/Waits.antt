@@ -1,7 +1,7 @@
 -- A wait over any limit n: it is answered Timeout exactly when it had n replies, one after the other, that were idle reads,
 -- and so is one read of the machine's.
 use mathlib.Core.Logic.{_↔_}
-use mathlib.Core.Bool.{Bool, true, false, _&&_, cond}
+use mathlib.Core.Bool.{Bool, true, false, cond}
 use mathlib.Core.List.{List, [], _∷_}
 use Prim.Native.Nat.{ℕ, zero, suc, _≤_, _<_}
 use lib.Dec.{T, eqb}

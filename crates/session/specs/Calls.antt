@@ -1,8 +1,8 @@
 -- The calls: what their arguments decide, their instructions, and how they end. 01, "Calls"; the transfers are those of lib.rs, in its order.
-use mathlib.Core.Bool.{Bool, true, false, _||_, _&&_, cond}
+use mathlib.Core.Bool.{Bool, true, _||_, _&&_}
 use mathlib.Core.List.{List, [], _∷_, _++_, map}
 use Prim.Native.Nat.{ℕ, zero, suc, _+_, _*_}
-use lib.Dec.{eqb, ltb, leb}
+use lib.Dec.{ltb, leb}
 use lib.ListN.{getD}
 use Rattle.rate.specs.declared.RateWord.{RateWord}
 use Rattle.rate.specs.Rate.{signalRateLimitWord}

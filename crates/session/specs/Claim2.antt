@@ -2,9 +2,8 @@
 -- and in the driver's fields [..]. Where the Rust panics, the same transfers and then answer 8."
 use mathlib.Core.Path.{_≡_}
 use mathlib.Core.Bool.{true, false}
-use mathlib.Core.List.{List, [], _∷_}
+use mathlib.Core.List.{List}
 use Prim.Native.Nat.{ℕ, _≤_}
-use lib.ListN.{drop}
 use Rattle.session.specs.Bus.{byte}
 use Rattle.session.specs.Script.{Raw, play}
 use Rattle.session.specs.RustBringUp.{rust}

@@ -1,13 +1,13 @@
 -- The methods of lib.rs but for the bring-up, function by function, in its names and its order.
 use mathlib.Core.Bool.{Bool, true, false, not, _||_, cond}
-use mathlib.Core.List.{List, [], _∷_}
+use mathlib.Core.List.{[], _∷_}
 use Prim.Native.Nat.{ℕ, _+_, _*_, _-_, _%_, _/_, _^_}
 use lib.Bits.{bitAnd}
 use lib.Dec.{eqb, ltb}
 use lib.ListN.{getD}
 use Rattle.session.specs.Bus.{Answer}
 use Rattle.session.specs.Registers.{SYSRANGE-START, WHO-AM-I, SYSTEM-SEQUENCE-CONFIG, FINAL-RANGE-CONFIG-MIN-COUNT-RATE-RTN-LIMIT, SYSTEM-INTERRUPT-CONFIG-GPIO, GPIO-HV-MUX-ACTIVE-HIGH, SYSTEM-INTERRUPT-CLEAR, RESULT-INTERRUPT-STATUS, RESULT-RANGE-STATUS-plus-10, OSC-CALIBRATE-VAL, SYSTEM-INTERMEASUREMENT-PERIOD, FINAL-RANGE-CONFIG-VCSEL-PERIOD, PRE-RANGE-CONFIG-VCSEL-PERIOD, PRE-RANGE-CONFIG-TIMEOUT-MACROP-HI, FINAL-RANGE-CONFIG-TIMEOUT-MACROP-HI, MSRC-CONFIG-TIMEOUT-MACROP, I2C-SLAVE-DEVICE-ADDRESS, SYSTEM-THRESH-HIGH, SYSTEM-THRESH-LOW}
-use Rattle.session.specs.RustFn.{Chip, Result, ok, err, Fn, _>>=_, _>>_, Ok, Err, try, hand, if, self, set-self-address, set-self-budget, com-write, read-register, read-16bit, write-byte, write-16bit, write-32bit, while-idle}
+use Rattle.session.specs.RustFn.{Result, ok, err, Fn, _>>=_, _>>_, Ok, Err, try, hand, if, self, set-self-address, set-self-budget, com-write, read-register, read-16bit, write-byte, write-16bit, write-32bit, while-idle}
 use Rattle.session.specs.RustClocks.{or-u8, and-u8, no-interrupt, start-bit, threshold-raw, threshold-mm, limit-contained, limit-word, multiply-period, decode-timeout, encode-timeout, decode-vcsel-period, timeout-mclks-to-microseconds, timeout-microseconds-to-mclks, subtract-if, add-if, plus-one}
 
 abbrev pub who-am-i : Fn ℕ
@@ -164,8 +164,8 @@ budget-microseconds enables timeouts =
     let b₀ = 1910 + 960 in
     let b₁ = cond (enables .tcc) (b₀ + (timeouts .msrc-dss-tcc-microseconds + 590)) b₀ in
     let b₂ =
-        cond (enables .dss) (b₁ + 2 * (timeouts .msrc-dss-tcc-microseconds + 690))
-        (cond (enables .msrc) (b₁ + (timeouts .msrc-dss-tcc-microseconds + 660)) b₁)
+    cond (enables .dss) (b₁ + 2 * (timeouts .msrc-dss-tcc-microseconds + 690))
+    (cond (enables .msrc) (b₁ + (timeouts .msrc-dss-tcc-microseconds + 660)) b₁)
     in
     let b₃ = cond (enables .pre-range) (b₂ + (timeouts .pre-range-microseconds + 660)) b₂ in
     cond (enables .final-range) (b₃ + (timeouts .final-range-microseconds + 550)) b₃
@@ -176,8 +176,8 @@ use-budget-microseconds enables timeouts =
     let b₀ = 1320 + 960 in
     let b₁ = cond (enables .tcc) (b₀ + (timeouts .msrc-dss-tcc-microseconds + 590)) b₀ in
     let b₂ =
-        cond (enables .dss) (b₁ + (2 * timeouts .msrc-dss-tcc-microseconds + 690))
-        (cond (enables .msrc) (b₁ + (timeouts .msrc-dss-tcc-microseconds + 660)) b₁)
+    cond (enables .dss) (b₁ + (2 * timeouts .msrc-dss-tcc-microseconds + 690))
+    (cond (enables .msrc) (b₁ + (timeouts .msrc-dss-tcc-microseconds + 660)) b₁)
     in
     let b₃ = cond (enables .pre-range) (b₂ + (timeouts .pre-range-microseconds + 660)) b₂ in
     cond (enables .final-range) (b₃ + 550) b₃

@@ -3,7 +3,7 @@ use mathlib.Core.Bool.{Bool, true, false, _||_, _&&_, cond}
 use Prim.Native.Nat.{ℕ, zero, suc, _+_, _*_, _-_, _%_, _/_, _^_}
 use lib.Bits.{bitOr, bitAnd}
 use lib.Dec.{eqb, ltb, leb}
-use lib.Ieee.{Float, binary32, round, ofBits, le, mul, toUnsigned}
+use lib.Ieee.{binary32, round, ofBits, le, mul, toUnsigned}
 use Rattle.session.specs.RustFn.{Fn, Ok, panic, if}
 
 -- `|` and `&` of u8

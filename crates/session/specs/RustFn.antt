@@ -1,5 +1,5 @@
 -- How lib.rs is written here: a method of the chip is a `Fn`, a line `x ← m` is `let x = m?;`, a panic ends the call in its place.
-use mathlib.Core.Bool.{Bool, true, false, cond}
+use mathlib.Core.Bool.{Bool, cond}
 use mathlib.Core.List.{List, [], _∷_}
 use Prim.Native.Nat.{ℕ, suc, _+_, _*_, _/_, _%_}
 use Rattle.session.specs.Bus.{byte, transferOf, Answer}
