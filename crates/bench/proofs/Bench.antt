@@ -6,6 +6,7 @@ use Rattle.timing.specs.Timeouts.{timeoutClocks, periodClocks, preShare, finalC
 use Rattle.timing.specs.Places.{timeoutPlace, periodPlace, lessPlace, entriesOf, firstOf, firstPlace}
 use Rattle.budget.specs.Sums.{dssOrMsrc, stepSum, budgetSum, usedSum}
 use Rattle.budget.specs.Budget.{measurementTimingBudget, wordOfSum, wordWithin, finalRangeWord}
+use Rattle.session.proofs.Bench.{session-values}
 use Rattle.bench.specs.Bench.{BenchValues}
 
 pub bench : BenchValues
@@ -27,4 +28,5 @@ bench = record {
   map-0 = refl;
   call-15 = refl;
   call-9 = refl;
+  session = session-values;
 }

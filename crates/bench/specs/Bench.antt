@@ -1,4 +1,4 @@
--- 01, "Bench values": the lines marked P, in their order, as one list about the definitions.
+-- 01, "Bench values": the lines marked P, in their order, as one list about the definitions; and the values of the session.
 use mathlib.Core.Path.{_≡_}
 use mathlib.Core.Bool.{true}
 use mathlib.Core.List.{List, [], _∷_}
@@ -13,6 +13,7 @@ use Rattle.budget.specs.declared.DssTerm.{DssTerm}
 use Rattle.budget.specs.declared.WordOr.{WordOr}
 use Rattle.timing.specs.Registers.{registersOf}
 use Rattle.budget.specs.Budget.{measurementTimingBudget, finalRangeWord}
+use Rattle.session.specs.Bench.{SessionValues}
 
 -- "map FF six times"
 abbrev pub allGood : List ℕ
@@ -39,3 +40,5 @@ pub record BenchValues : Type 0 where
   pub map-0 : selected allGood 0 true ≡ 0x00 ∷ 0x00 ∷ 0x00 ∷ 0x00 ∷ 0x00 ∷ 0x00 ∷ []
   pub call-15 : measurementTimingBudget reads ≡ MicrosecondsOr.Value (record { 0 = 31326 })
   pub call-9 : finalRangeWord reads (record { 0 = 33000 }) DssTerm.Once ≡ WordOr.Word 0x0292
+  -- the numbers and values of the answers, a fresh session's zeros, and the run that 01 prints
+  pub session : SessionValues
