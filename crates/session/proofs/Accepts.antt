@@ -10,8 +10,8 @@ use Rattle.session.specs.Bus.{Driver, Transfer, Answer, Reply, bad, good
 use Rattle.session.specs.Instructions.{Ctx, Verdict, onward, leap, stop, test, Op, write, read, wait, range, Final, success, failure, sendOf}
 use Rattle.session.specs.Steps.{slot}
 use Rattle.session.specs.Calls.{Program, opsOf, programOf}
-use Rattle.session.specs.Script.{done}
 use Rattle.session.specs.Machine.{Session, Outcome, sent, answered, refused, broken, resting, ctxOf, keptOf, giving, conclude, enter, arrive, decide, react, toReply, stray, onOps, waitsNow, illFormed, replyDef}
+use Rattle.session.specs.Script.{done}
 use Rattle.session.proofs.Facts.{cond-case}
 
 -- a property of what a call gives, for every session of the call

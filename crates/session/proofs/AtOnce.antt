@@ -8,7 +8,7 @@ use lib.Ieee.{binary32, round, ofBits, le}
 use Rattle.rate.specs.Rate.{signalRateLimitWord, rateOf, inRange, literal}
 use Rattle.session.specs.Calls.{tuning, programs, programOf, argumentsOk}
 use Rattle.session.specs.Machine.{Session, Outcome, ctxOf, arrive, decide, begun, beginDef}
-use Rattle.session.specs.History.{call, stepDef}
+use Rattle.session.specs.Records.{call, stepDef}
 use Rattle.session.specs.Refusals.{atOnce, firstAnswer}
 use Rattle.session.specs.Claim1.{answerShown, AtOnce}
 use Rattle.session.specs.Claim2.{Accepted}

@@ -2,9 +2,10 @@
 use mathlib.Core.Path.{_≡_, refl}
 use Rattle.session.specs.Bus.{Driver}
 use Rattle.session.specs.Calls.{tuning, programs, programOf, defaultAddress, ceilings, ceilingOf, greatest, argumentsOk}
-use Rattle.session.specs.RustBringUp.{new, calls, rust}
 use Rattle.session.specs.Machine.{arrive, stray, malformed, replyDef, beginDef}
-use Rattle.session.specs.History.{recordsOf, stepDef, runFrom, runRecords, runDef}
+use Rattle.session.specs.Records.{recordsOf, stepDef}
+use Rattle.session.specs.RustBringUp.{new, calls, rust}
+use Rattle.session.specs.History.{runFrom, runRecords, runDef}
 use Rattle.session.specs.Bench.{SessionValues}
 
 pub session-values : SessionValues

@@ -13,8 +13,9 @@ use Rattle.session.specs.Bus.{Transfer, Answer, Reply, bad, good, Condit
 use Rattle.session.specs.Instructions.{Ctx, stopAnswer, Verdict, onward, leap, stop, test, Op, write, read, wait, range, Final, success, failure, sendOf, readWins, reportOf}
 use Rattle.session.specs.Steps.{slot}
 use Rattle.session.specs.Calls.{opsOf, programOf}
+use Rattle.session.specs.Machine.{Session, Outcome, sent, answered, refused, resting, heldBy, ctxOf, keptOf, sending, giving, conclude, enter, arrive, decide, react, toReply, stray, upWrong, replyDef, begun, notUp}
 use Rattle.session.specs.Script.{Script, done, send, waitLoop, Raw, dataOf, isClean, cut, Trace, sends, refuses, waits, ends, shown, heard, play}
-use Rattle.session.specs.Machine.{Session, Outcome, sent, answered, refused, resting, heldBy, ctxOf, keptOf, sending, giving, conclude, enter, arrive, decide, react, toReply, stray, upWrong, replyDef, begun, notUp, follows, drive}
+use Rattle.session.specs.Claim2.{follows, drive}
 use Rattle.session.proofs.Facts.{cond-same, drop-next}
 use Rattle.session.proofs.Resume.{concluded, decideS, failS, resume}
 use Rattle.session.proofs.Good.{limit-positive, code-test, Good, Between, good-sound, arrive-good, worst-drop, wait-left}

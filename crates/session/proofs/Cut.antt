@@ -7,12 +7,12 @@ use native.Mathlib.Omega.{arith}
 use native.Mathlib.Nat.{not-suc-le-zero, le-of-suc-le-suc}
 use lib.Dec.{eqb}
 use lib.ListN.{take, drop}
-use Rattle.session.specs.Bus.{Transfer, byte, Condition, detectorReady, statusReady, started, idleOn}
+use Rattle.session.specs.Bus.{Transfer, byte, Condition, detectorReady, statusReady, started, idleOn, zeroFrom, cleanFrom}
 use Rattle.session.specs.Instructions.{Op, write, read, wait, range, bytesFrom, sendOf}
 use Rattle.session.specs.Steps.{slot}
 use Rattle.session.specs.Calls.{Program}
-use Rattle.session.specs.Script.{zeroFrom, cleanFrom, cut}
 use Rattle.session.specs.Machine.{Session, ctxOf, react, toReply, allZero, stray}
+use Rattle.session.specs.Script.{cut}
 
 zero-from : (n : ℕ) (bs : List ℕ) → allZero (drop n bs) ≡ zeroFrom n bs
 zero-from zero [] = refl

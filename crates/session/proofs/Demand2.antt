@@ -7,10 +7,10 @@ use native.Mathlib.Omega.{arith}
 use Rattle.session.specs.Bus.{Driver}
 use Rattle.session.specs.Instructions.{Ctx}
 use Rattle.session.specs.Calls.{opsOf, programOf, argumentsOk}
+use Rattle.session.specs.Machine.{Session, ctxOf, decide, begun, notUp, beginDef}
 use Rattle.session.specs.Script.{Raw, play}
 use Rattle.session.specs.RustBringUp.{rust}
-use Rattle.session.specs.Machine.{Session, ctxOf, decide, begun, notUp, beginDef, drive}
-use Rattle.session.specs.Claim2.{Accepted}
+use Rattle.session.specs.Claim2.{drive, Accepted, Demand2}
 use Rattle.session.proofs.Table.{AllBelow, by-code}
 use Rattle.session.proofs.AcceptedIff.{range-is, ready-ok}
 use Rattle.session.proofs.Bisim.{begun-marked, decide-same, bisim}
@@ -32,7 +32,7 @@ each s a b =
     let d : Driver = s .driver in
     (same-1 d a b, (same-2 d a b, (same-3 d a b, (same-4 d a b, (same-5 d a b, (same-6 d a b, (same-7 d a b, (same-8 d a b, (same-9 d a b, (same-10 d a b, (same-11 d a b, (same-12 d a b, (same-13 d a b, (same-14 d a b, (same-15 d a b, tt)))))))))))))))
 
-pub demand-2 : (s : Session) (code a b : ℕ) → Accepted s code a b → (rs : List Raw) → drive rs (beginDef s code a b) ≡ play (rust (s .driver) code a b) rs
+pub demand-2 : (s : Session) (code a b : ℕ) → Accepted s code a b → (rs : List Raw) → Demand2 s code a b rs
 unfolding beginDef
 demand-2 s code a b c rs =
     let h : argumentsOk code a b ≡ true = range-is code a b ∙ c .arguments in

@@ -7,9 +7,10 @@ use native.Mathlib.Omega.{arith}
 use lib.Dec.{eqb}
 use lib.ListN.{length}
 use Rattle.session.specs.Bus.{Answer, Reply}
-use Rattle.session.specs.Script.{heard}
 use Rattle.session.specs.Machine.{Session, Outcome, sent, answered, refused, broken, freshSession, toReply, begun}
-use Rattle.session.specs.History.{Record, call, reply, other, recordsOf, isWhole, stepDef, Got, transfer, answer, refusal, Entry, isTransfer, isAnswer, isRefused, isAcceptedCall, callsIn, answersIn, repliesIn, transfersIn, refusedIn, countsOf, Run, stopped, taking, runFrom, runRecords, runDef, inOrder, Standing, waiting, ended, CallRun, replied, place, callsOf, isWaiting, waitingIn}
+use Rattle.session.specs.Records.{Record, call, reply, other, recordsOf, isWhole, stepDef}
+use Rattle.session.specs.Script.{heard}
+use Rattle.session.specs.History.{Got, transfer, answer, refusal, Entry, isTransfer, isAnswer, isRefused, isAcceptedCall, callsIn, answersIn, repliesIn, transfersIn, refusedIn, countsOf, Run, stopped, taking, runFrom, runRecords, runDef, inOrder, Standing, waiting, ended, CallRun, replied, place, callsOf, isWaiting, waitingIn}
 use Rattle.session.specs.Claim3.{waitingCode, waitingTransfers, Demand3}
 use Rattle.session.proofs.Facts.{cond-case}
 use Rattle.session.proofs.Up.{up-is, fields-are, down}

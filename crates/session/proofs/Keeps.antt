@@ -10,9 +10,10 @@ use borrow.Author.Tests.{not-false}
 use Rattle.session.specs.Bus.{Driver, Transfer, Answer, byte, absent}
 use Rattle.session.specs.Instructions.{Op, sendOf}
 use Rattle.session.specs.Calls.{opsOf, programOf, argumentsOk}
-use Rattle.session.specs.Script.{heard}
 use Rattle.session.specs.Machine.{Session, Outcome, sent, answered, refused, broken, resting, ctxOf, decide, react, toReply, stray, replyDef, begun, notUp, beginDef, otherDef}
-use Rattle.session.specs.History.{Record, call, reply, other, stepDef, Got, transfer, answer, refusal, isTransfer, isRefused, isAcceptedCall, isAcceptedReply, Exchange, by, waiting, ended, CallRun, place, waitingIn, transfersOf}
+use Rattle.session.specs.Records.{Record, call, reply, other, stepDef}
+use Rattle.session.specs.Script.{heard}
+use Rattle.session.specs.History.{Got, transfer, answer, refusal, isTransfer, isRefused, isAcceptedCall, isAcceptedReply, Exchange, by, waiting, ended, CallRun, place, waitingIn, transfersOf}
 use Rattle.session.specs.Claim3.{afterBegun, isUp, BegunUp, All, Lawful, sumOf, repliesOf}
 use Rattle.session.proofs.Facts.{cond-case, untrue}
 use Rattle.session.proofs.Good.{code-test, good-sound}

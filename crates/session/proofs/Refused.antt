@@ -8,13 +8,12 @@ use native.Mathlib.Nat.{add-zero, zero-add, add-suc, suc-add}
 use lib.Dec.{eqb, ltb, leb}
 use lib.ListN.{length, getD, drop}
 use borrow.Author.Tests.{ne-eqb, leb-true, le-leb, lt-leb}
-use Rattle.session.specs.Bus.{Answer, waitLimit}
+use Rattle.session.specs.Bus.{Answer, waitLimit, zeroFrom, cleanFrom}
 use Rattle.session.specs.Instructions.{Op, write, read, wait, range, sendOf}
 use Rattle.session.specs.Steps.{slot}
 use Rattle.session.specs.Calls.{Program, opsOf, tuning, nothing, programs, programOf, ceilings, ceilingOf, argumentsOk}
-use Rattle.session.specs.Script.{zeroFrom, cleanFrom}
 use Rattle.session.specs.Machine.{Session, Outcome, sent, answered, refused, broken, ctxOf, decide, react, toReply, stray, onOps, idleWrong, upWrong, malformed, waitsNow, illFormed, replyDef, begun, notUp, beginDef, otherDef}
-use Rattle.session.specs.History.{Record, call, reply, other, stepDef}
+use Rattle.session.specs.Records.{Record, call, reply, other, stepDef}
 use Rattle.session.specs.Refusals.{ranges, inRange, limitRows, lengthRows, most, busy, idleBad, forRecord, refusals, firstOf}
 use Rattle.session.specs.Claim1.{Single, one-refusal, refusalNumber}
 use Rattle.session.proofs.Good.{limit-positive}

@@ -3,8 +3,8 @@ use mathlib.Core.Bool.{cond}
 use mathlib.Core.List.{List, [], _∷_}
 use Prim.Native.Nat.{ℕ, zero, suc}
 use Rattle.session.specs.Bus.{waitLimit, idleOn, Reply, bad, good, Answer, Driver}
-use Rattle.session.specs.Script.{Script, done, send, onReply, waitLoop}
 use Rattle.session.specs.Instructions.{Ctx, stopAnswer, Verdict, onward, leap, stop, test, Op, write, read, wait, range, Final, success, failure, sendOf, keptBytes, keptFailure, keptBudget, readWins, reportOf}
+use Rattle.session.specs.Script.{Script, done, send, onReply, waitLoop}
 
 abbrev pub keeping : Ctx → Op → Reply → Ctx
 keeping c op r =

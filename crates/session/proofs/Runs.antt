@@ -7,7 +7,8 @@ use native.Mathlib.Omega.{arith}
 use lib.ListN.{length}
 use Rattle.session.specs.Bus.{Answer}
 use Rattle.session.specs.Machine.{Session, Outcome, sent, answered, refused, broken, illFormed, otherDef}
-use Rattle.session.specs.History.{Record, call, reply, other, recordsOf, isWhole, stepDef, transfer, answer, refusal, Entry, callsIn, repliesIn, refusedIn, countsOf, Run, stopped, taking, runFrom, runRecords, runDef, inOrder}
+use Rattle.session.specs.Records.{Record, call, reply, other, recordsOf, isWhole, stepDef}
+use Rattle.session.specs.History.{transfer, answer, refusal, Entry, callsIn, repliesIn, refusedIn, countsOf, Run, stopped, taking, runFrom, runRecords, runDef, inOrder}
 use Rattle.session.proofs.Facts.{cond-case}
 use Rattle.session.proofs.Keeps.{Kind}
 

@@ -11,10 +11,10 @@ use Rattle.timing.specs.Places.{entriesOf, lessPlace}
 use Rattle.session.specs.Bus.{Driver, byte, idleOn, absent}
 use Rattle.session.specs.Instructions.{Ctx}
 use Rattle.session.specs.Calls.{tuning, programs, programOf}
+use Rattle.session.specs.Machine.{zeros}
 use Rattle.session.specs.Script.{Script}
 use Rattle.session.specs.RustClocks.{limit-contained}
 use Rattle.session.specs.RustBringUp.{enable-ref-spads, calls, rust}
-use Rattle.session.specs.Machine.{zeros}
 use Rattle.session.proofs.Resume.{decideS, resume}
 use Rattle.session.proofs.Once.{onceOf}
 use Rattle.session.proofs.Formulas.{period-is}

@@ -11,7 +11,7 @@ use Rattle.session.specs.Instructions.{Stop, declines, wrongDevice, wron
 use Rattle.session.specs.Steps.{slot}
 use Rattle.session.specs.Calls.{opsOf, programOf, argumentsOk}
 use Rattle.session.specs.Machine.{Session, ctxOf, keptOf, sending, giving, conclude, enter, arrive, decide, react, toReply, stray, onOps, waitsNow, illFormed, replyDef, begun, notUp, beginDef, otherDef}
-use Rattle.session.specs.History.{Record, call, reply, other, stepDef}
+use Rattle.session.specs.Records.{Record, call, reply, other, stepDef}
 use Rattle.session.specs.Claim1.{firstOut, Single, one-transfer, one-answer, one-refusal, ill-formed}
 use Rattle.session.proofs.Facts.{cond-case}
 use Rattle.session.proofs.Sized.{on-the-bus}

@@ -7,11 +7,10 @@ use native.Mathlib.Omega.{arith}
 use borrow.Author.Tests.{leb-true}
 use lib.Dec.{leb}
 use lib.ListN.{length, drop}
-use Rattle.session.specs.Bus.{padTo, transferOf, waitRegister}
+use Rattle.session.specs.Bus.{padTo, transferOf, waitRegister, zeroFrom}
 use Rattle.session.specs.Instructions.{Ctx, Op, write, read, wait, range, sendOf}
 use Rattle.session.specs.Steps.{slot}
 use Rattle.session.specs.Calls.{Program, opsOf, tuning, programs, programOf}
-use Rattle.session.specs.Script.{zeroFrom}
 use Rattle.session.specs.Claim1.{isLength, OnTheBus}
 use Rattle.session.proofs.Facts.{both}
 use Rattle.session.proofs.Table.{of-table}

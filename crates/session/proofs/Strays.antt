@@ -9,14 +9,12 @@ use native.Mathlib.Nat.{not-suc-le-zero, le-of-suc-le-suc}
 use lib.Dec.{eqb, ltb}
 use lib.ListN.{drop}
 use borrow.Author.Tests.{eqb-true, eqb-false, ne-eqb, not-true, not-false}
-use Rattle.session.specs.Bus.{Transfer, Answer, byte}
+use Rattle.session.specs.Bus.{Transfer, Answer, byte, zeroFrom}
 use Rattle.session.specs.Instructions.{Op, sendOf}
 use Rattle.session.specs.Calls.{opsOf, programOf, ceilingOf, argumentsOk}
-use Rattle.session.specs.Script.{zeroFrom}
 use Rattle.session.specs.Machine.{Session, refused, ctxOf, toReply, stray, onOps, idleWrong, upWrong, malformed, waitsNow, illFormed, replyDef}
 use Rattle.session.specs.History.{waiting}
-use Rattle.session.specs.Claim1.{firstOut, refusalNumber}
-use Rattle.session.specs.Claim2.{Stray, past-length, beside-failure, Refused12}
+use Rattle.session.specs.Claim1.{firstOut, refusalNumber, Stray, past-length, beside-failure, Refused12}
 use Rattle.session.proofs.Facts.{cond-case, both}
 use Rattle.session.proofs.Cut.{stray-is}
 use Rattle.session.proofs.Accepts.{Accepts, react-accepts}

@@ -17,9 +17,9 @@ use Rattle.budget.specs.declared.DssTerm.{DssTerm}
 use Rattle.budget.specs.declared.WordOr.{WordOr}
 use Rattle.budget.specs.Sums.{usedSum}
 use Rattle.budget.specs.Budget.{withPre, wordOfSum, wordOfClocks, wordWithin, wordAfter, finalRangeWord}
-use Rattle.session.specs.Script.{Script}
 use Rattle.session.specs.Instructions.{Ctx, panics, Verdict, onward, leap, stop, test}
 use Rattle.session.specs.Steps.{byPlace, byWord}
+use Rattle.session.specs.Script.{Script}
 use Rattle.session.proofs.Facts.{cond-same}
 use Rattle.session.proofs.Resume.{decideS}
 use Rattle.session.proofs.Once.{placesAt, byPlaces, finalMacro, spareSum, wordTests}

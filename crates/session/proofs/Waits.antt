@@ -10,8 +10,8 @@ use mathlib.Core.Path.{_≡_}
 use Rattle.session.specs.Bus.{Driver, Transfer, Answer, Reply, bad, good, Condition, idleOn, numberOf}
 use Rattle.session.specs.Instructions.{wait, sendOf}
 use Rattle.session.specs.Calls.{Program}
-use Rattle.session.specs.Script.{Script, done, onReply, waitLoop, Raw, dataOf, isClean, cut, Trace, sends, refuses, waits, ends, heard, play}
 use Rattle.session.specs.Machine.{Session, sent, ctxOf, sending, giving, arrive, waitRead}
+use Rattle.session.specs.Script.{Script, done, onReply, waitLoop, Raw, dataOf, isClean, cut, Trace, sends, refuses, waits, ends, heard, play}
 use Rattle.session.specs.Claim3.{If}
 
 abbrev isIdle : (List ℕ → Bool) → Reply → Bool

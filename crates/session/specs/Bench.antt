@@ -7,7 +7,8 @@ use lib.ListN.{replicate}
 use Rattle.session.specs.Bus.{Answer, numberOf, valuesOf}
 use Rattle.session.specs.Instructions.{stop}
 use Rattle.session.specs.Machine.{freshSession}
-use Rattle.session.specs.History.{call, reply, transfer, answer, runDef}
+use Rattle.session.specs.Records.{call, reply}
+use Rattle.session.specs.History.{transfer, answer, runDef}
 
 -- one of each answer, in 01's order
 abbrev pub answers : List Answer

@@ -1,6 +1,6 @@
 -- The words of the bus: transfers, replies, waits, answers and the driver's fields.
 -- 01, "Transfers and waits" and the table of answers.
-use mathlib.Core.Bool.{Bool, true, false, not}
+use mathlib.Core.Bool.{Bool, true, false, not, _&&_}
 use mathlib.Core.List.{List, [], _∷_}
 use Prim.Native.Nat.{ℕ, zero, suc, _%_}
 use lib.Dec.{eqb}
@@ -40,6 +40,17 @@ failureIn (good bs) = 0
 abbrev pub dataIn : Reply → List ℕ
 dataIn (bad e) = []
 dataIn (good bs) = bs
+
+-- the bytes from the n-th on are zero
+abbrev pub zeroFrom : ℕ → List ℕ → Bool
+zeroFrom n [] = true
+zeroFrom zero (x ∷ xs) = eqb x 0 && zeroFrom zero xs
+zeroFrom (suc n) (x ∷ xs) = zeroFrom n xs
+
+-- 01: "six data bytes, those past the read length zero; all zero on failure. Any other data byte set is a stray byte."
+abbrev pub cleanFrom : ℕ → ℕ → ℕ
+cleanFrom zero n = n
+cleanFrom (suc e) n = 0
 
 -- 01: "Waits: detector, 0x83 non-zero, limit 65,535; status, low three bits of 0x13 not all zero, limit 10,000;
 -- start, bit 0 of 0x00 clear, limit 10,000."

@@ -1,18 +1,17 @@
 -- Demand 1: "One transfer or numbered answer, fixed by document 01, meets every session, record and slice of records;
 -- a refusal makes no transfer and changes neither the session nor any lent byte."
 use mathlib.Core.Path.{_≡_}
-use mathlib.Core.Bool.{Bool, true, _||_}
+use mathlib.Core.Bool.{Bool, true, _||_, false}
 use mathlib.Core.List.{List, [], _∷_}
 use mathlib.Core.Option.{Option, some, none}
 use Prim.Native.Nat.{ℕ, _≤_}
 use lib.Dec.{eqb}
 use lib.ListN.{length, drop}
-use Rattle.session.specs.Bus.{Transfer, Answer, byte, transferOf, numberOf, valuesOf}
+use Rattle.session.specs.Bus.{Transfer, Answer, byte, transferOf, numberOf, valuesOf, zeroFrom}
 use Rattle.session.specs.Instructions.{Ctx, Op, sendOf}
 use Rattle.session.specs.Calls.{opsOf, programOf}
-use Rattle.session.specs.Script.{zeroFrom}
-use Rattle.session.specs.Machine.{Session, Outcome, sent, answered, refused, broken, resting, ctxOf, beginDef}
-use Rattle.session.specs.History.{Record, call, stepDef}
+use Rattle.session.specs.Machine.{Session, Outcome, sent, answered, refused, broken, resting, ctxOf, beginDef, malformed}
+use Rattle.session.specs.Records.{Record, call, stepDef}
 use Rattle.session.specs.Refusals.{refusals, firstOf, atOnce, firstAnswer}
 
 -- the transfer that a waiting session has out
@@ -64,3 +63,14 @@ pub record Demand1 (s : Session) (r : Record) : Type 0 where
 -- a call that the table does not refuse is answered at once by its rows 5, 6 and the first 1, with no transfer made; else it makes its first transfer
 abbrev pub AtOnce : Session → ℕ → ℕ → ℕ → Type 0
 AtOnce s code a b = firstOf (refusals s (call code a b)) ≡ 0 → answerShown (beginDef s code a b) ≡ firstAnswer (atOnce code a b)
+
+-- a data byte that is not zero, past the read length or beside a failure
+pub data Stray (reads f : ℕ) (bs : List ℕ) : Type 0 where
+  past-length : f ≡ 0 → (i : ℕ) → reads ≤ i → (byte i bs ≡ 0 → ⊥) → Stray reads f bs
+  beside-failure : (f ≡ 0 → ⊥) → (i : ℕ) → (byte i bs ≡ 0 → ⊥) → Stray reads f bs
+
+-- a reply that is refused with answer 12
+pub record Refused12 (s : Session) (f : ℕ) (bs : List ℕ) : Type 0 where
+  pub waiting : s .code ≡ 0 → ⊥
+  pub sound : malformed s ≡ false
+  pub stray : Stray (outstanding s .reads) f bs

@@ -8,10 +8,11 @@ use lib.Dec.{eqb, T}
 use lib.ListN.{length, getD}
 use Rattle.session.specs.Bus.{Driver, Transfer, Answer, byte, bytesOf, Reply, bad, good, failureIn, dataIn, Condition, detectorReady, statusReady, started, numberOf, valuesOf, absent, withAddress, withBudget}
 use Rattle.session.specs.Instructions.{stop, failure}
+use Rattle.session.specs.Machine.{begun}
+use Rattle.session.specs.Records.{recordsOf, isWhole}
 use Rattle.session.specs.Script.{Raw, Trace, sends, refuses, waits, ends, heard, play}
 use Rattle.session.specs.RustBringUp.{calls, rust}
-use Rattle.session.specs.Machine.{begun}
-use Rattle.session.specs.History.{recordsOf, isWhole, answer, callsIn, answersIn, repliesIn, transfersIn, refusedIn, countsOf, Run, inOrder, Exchange, by, Standing, waiting, ended, CallRun, callsOf, isWaiting, waitingIn, transfersOf}
+use Rattle.session.specs.History.{answer, callsIn, answersIn, repliesIn, transfersIn, refusedIn, countsOf, Run, inOrder, Exchange, by, Standing, waiting, ended, CallRun, callsOf, isWaiting, waitingIn, transfersOf}
 
 abbrev pub bytesAre : List ℕ → List ℕ → Bool
 bytesAre [] [] = true

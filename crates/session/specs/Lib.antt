@@ -1,16 +1,22 @@
+-- in reading order: the bus, the calls, the machine
 pub mod Bus
 pub mod Instructions
 pub mod Steps
 pub mod Calls
+pub mod Machine
+-- records of bytes, and 01's table of refusals
+pub mod Records
+pub mod Refusals
+-- the Rust as a script
 pub mod Script
 pub mod Registers
 pub mod RustFn
 pub mod RustClocks
 pub mod RustCalls
 pub mod RustBringUp
-pub mod Machine
+-- runs and their history
 pub mod History
-pub mod Refusals
+-- the three demands, and values
 pub mod Claim1
 pub mod Claim2
 pub mod Claim3

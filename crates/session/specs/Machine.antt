@@ -5,9 +5,9 @@ use Prim.Native.Nat.{ℕ, zero, suc, _+_}
 use lib.Dec.{eqb, ltb, leb}
 use lib.ListN.{drop, replicate}
 pub use Rattle.session.specs.declared.Session.{Session}
-use Rattle.session.specs.Bus.{Condition, waitLimit, idleOn, Transfer, Reply, bad, good, Answer, Driver, absent}
-use Rattle.session.specs.Script.{Trace, sends, refuses, waits, ends, Raw, dataOf}
+use Rattle.session.specs.Bus.{Driver, Transfer, Answer, Reply, bad, good, Condition, waitLimit, idleOn, absent}
 use Rattle.session.specs.Instructions.{Ctx, stopAnswer, Verdict, onward, leap, stop, test, Op, write, read, wait, range, Final, success, failure, sendOf, keptBytes, keptFailure, keptBudget, readWins, reportOf}
+use Rattle.session.specs.Steps.{slot}
 use Rattle.session.specs.Calls.{Program, opsOf, programOf, ceilingOf, argumentsOk}
 
 pub data Outcome : Type 0 where
@@ -210,26 +210,3 @@ beginDef s code a b =
 -- a record of no kind: 15, 13
 unfoldable pub otherDef : Session → Outcome
 otherDef s = cond (illFormed s) (broken s) (refused Answer.IllFormedRecord s)
-
--- the session after an outcome
-abbrev pub sessionOf : Outcome → Session
-sessionOf (sent t s) = s
-sessionOf (answered x n s) = s
-sessionOf (refused x s) = s
-sessionOf (broken s) = s
-
--- what is seen of an outcome, before what comes after
-abbrev pub seen : Outcome → Trace → Trace
-seen (sent t s) x = sends t x
-seen (answered a n s) x = ends a (s .driver)
-seen (refused a s) x = refuses a x
-seen (broken s) x = refuses Answer.IllFormedSession x
-
--- the machine over a list of reply records, as they come
-unfoldable pub follows : List Raw → Session → Trace
-follows [] s = waits
-follows (r ∷ rs) s =
-    seen (replyDef s (r .failure) (dataOf r)) (follows rs (sessionOf (replyDef s (r .failure) (dataOf r))))
-
-unfoldable pub drive : List Raw → Outcome → Trace
-drive rs o = seen o (follows rs (sessionOf o))

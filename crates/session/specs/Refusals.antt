@@ -6,9 +6,9 @@ use Prim.Native.Nat.{ℕ}
 use lib.Dec.{eqb, ltb, leb}
 use lib.ListN.{length, getD, replicate}
 use lib.Ieee.{binary32, round, ofBits, le}
+use Rattle.session.specs.Bus.{zeroFrom, cleanFrom}
 use Rattle.session.specs.Machine.{Session}
-use Rattle.session.specs.Script.{zeroFrom, cleanFrom}
-use Rattle.session.specs.History.{Record, call, reply, other}
+use Rattle.session.specs.Records.{Record, call, reply, other}
 
 -- code, greatest A, greatest B
 abbrev pub ranges : List (ℕ × ℕ × ℕ)

@@ -1,11 +1,11 @@
 -- A script: what a Rust call does on the bus, as a tree. It ends in an answer and the driver's fields,
 -- or sends a transfer and goes on by the reply.
-use mathlib.Core.Bool.{Bool, true, false, _&&_, cond}
+use mathlib.Core.Bool.{Bool, true, false, cond}
 use mathlib.Core.List.{List, [], _∷_}
 use Prim.Native.Nat.{ℕ, zero, suc}
-use lib.Dec.{eqb}
 use lib.ListN.{take}
-use Rattle.session.specs.Bus.{Transfer, Reply, bad, good, Answer, Driver}
+use Rattle.session.specs.Bus.{Driver, Transfer, Answer, Reply, bad, good, zeroFrom, cleanFrom}
+use Rattle.session.specs.Instructions.{failure}
 
 pub data Script : Type 0 where
   done : Answer → Driver → Script
@@ -34,17 +34,6 @@ pub record Raw : Type 0 where
 
 abbrev pub dataOf : Raw → List ℕ
 dataOf r = r .b₀ ∷ r .b₁ ∷ r .b₂ ∷ r .b₃ ∷ r .b₄ ∷ r .b₅ ∷ []
-
--- the bytes from the n-th on are zero
-abbrev pub zeroFrom : ℕ → List ℕ → Bool
-zeroFrom n [] = true
-zeroFrom zero (x ∷ xs) = eqb x 0 && zeroFrom zero xs
-zeroFrom (suc n) (x ∷ xs) = zeroFrom n xs
-
--- 01: "six data bytes, those past the read length zero; all zero on failure. Any other data byte set is a stray byte."
-abbrev pub cleanFrom : ℕ → ℕ → ℕ
-cleanFrom zero n = n
-cleanFrom (suc e) n = 0
 
 abbrev pub isClean : Transfer → Raw → Bool
 isClean t r = zeroFrom (cleanFrom (r .failure) (t .reads)) (dataOf r)
