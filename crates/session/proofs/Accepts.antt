@@ -1,17 +1,18 @@
 -- What a call that goes on can give: never a refusal; and a bring-up that does not succeed leaves no fields.
 use mathlib.Core.Path.{_≡_, refl}
-use mathlib.Core.Bool.{false, not}
+use mathlib.Core.Bool.{not}
 use mathlib.Core.List.{List, [], _∷_}
 use Prim.Native.Nat.{ℕ, suc}
 use native.Mathlib.Omega.{arith}
-use lib.Dec.{eqb, ltb}
+use lib.Dec.{ltb}
 use lib.ListN.{drop}
-use Rattle.session.specs.Bus.{Driver, Transfer, Answer, Reply, bad, good, waitLimit, idleOn, numberOf, absent}
+use Rattle.session.specs.Bus.{Driver, Transfer, Answer, Reply, bad, good, waitLimit, idleOn}
 use Rattle.session.specs.Instructions.{Ctx, Verdict, onward, leap, stop, test, Op, write, read, wait, range, Final, success, failure, sendOf}
 use Rattle.session.specs.Steps.{slot}
 use Rattle.session.specs.Calls.{Program, opsOf, programOf}
 use Rattle.session.specs.Machine.{Session, Outcome, sent, answered, refused, broken, resting, ctxOf, keptOf, giving, conclude, enter, arrive, decide, react, toReply, stray, onOps, waitsNow, illFormed, replyDef}
 use Rattle.session.specs.Script.{done}
+use Rattle.session.specs.Claim1.{LeavesNone}
 use Rattle.session.proofs.Facts.{cond-case}
 
 -- a property of what a call gives, for every session of the call
@@ -61,13 +62,6 @@ decide-accepts v p over k x = decide-all Accepts (x .code) (λ t s. tt) (λ v n 
 
 pub react-accepts : (op : Op) (p : Program) (x : Session) (r : Reply) → Accepts (react op p x r)
 react-accepts op p x r = react-all Accepts (x .code) (λ t s. tt) (λ v n d. tt) (λ y s e. tt) op p x r refl
-
--- a call answered otherwise than Done leaves no fields
-abbrev pub LeavesNone : Outcome → Type 0
-LeavesNone (sent t s) = Unit {0}
-LeavesNone (answered x n s) = eqb (numberOf x) 0 ≡ false → s .driver ≡ absent
-LeavesNone (refused n s) = Unit {0}
-LeavesNone (broken s) = Unit {0}
 
 -- a bring-up that waits, handed in with any fields
 pub bring-up-leaves-none : (s : Session) (f : ℕ) (bs : List ℕ) → s .code ≡ 1 → LeavesNone (replyDef s f bs)

@@ -6,25 +6,26 @@ use Prim.Native.Nat.{ℕ, suc, _+_, _-_, _≤_, _<_}
 use native.Mathlib.Omega.{arith}
 use lib.Dec.{eqb}
 use lib.ListN.{length, drop}
-use Rattle.session.specs.Bus.{Driver, Transfer, Answer, Condition, detectorReady, statusReady, started, sameOn, numberOf, valuesOf, absent}
+use Rattle.session.specs.Bus.{Driver, Transfer, Answer, Condition, detectorReady, statusReady, started, numberOf, valuesOf, absent}
 use Rattle.session.specs.Instructions.{Stop, declines, wrongDevice, wrongAddress, wrongArgument, unready, panics, stopAnswer, Verdict, onward, leap, stop, test, Op, write, read, wait, range, Final, success, failure, sendOf}
 use Rattle.session.specs.Steps.{slot}
-use Rattle.session.specs.Calls.{opsOf, programOf, floorOf}
+use Rattle.session.specs.Calls.{opsOf, programOf}
 use Rattle.session.specs.Machine.{Session, Outcome, sent, answered, refused, broken, resting, heldBy, ctxOf, sending, giving, conclude, enter, arrive, decide}
 use Rattle.session.specs.History.{Exchange, Standing, waiting, ended, CallRun}
-use Rattle.session.specs.Claim3.{limitIn, idleReads, rangeFailure, Failures, budgetOfFirst, afterDone, afterBegun, Lawful}
+use Rattle.session.specs.Claim3.{limitIn, idleReads, rangeFailure, Failures, budgetOfFirst, afterDone, Lawful, floorIn}
 use Rattle.session.proofs.Facts.{cond-case, untrue}
 use Rattle.session.proofs.Good.{limit-positive, Good, Between, arrive-good, wait-left}
 use Rattle.session.proofs.Bisim.{between-skip}
 use Rattle.session.proofs.Laws.{FinalOk, final-law}
 use Rattle.session.proofs.Phase.{AllGood, Phase, clean, tidy0, tidy1, tidy2, good-any, phase-cleared, phase-waiting}
-use Rattle.session.proofs.Own.{claim-ceiling, claim-floor, limit-is}
-use Rattle.session.proofs.Shape.{waitsOn}
+use Rattle.session.proofs.Own.{claim-ceiling, limit-is}
+use Rattle.session.proofs.Shape.{waitsOn, sameOn}
 use Rattle.session.proofs.Floor.{least}
 use Rattle.session.proofs.Told.{Told}
 use Rattle.session.proofs.Trace.{Track, Sound, Traced}
 use Rattle.session.proofs.Owned.{Owns, Owned}
 use Rattle.session.proofs.Fields.{value-15, fields-of}
+use Rattle.session.proofs.Up.{afterBegun}
 
 -- a waiting session and the exchanges of its call; d: the driver before the call
 pub record Match (s : Session) (op : Op) (rest : List Op) (ex : List Exchange) (d : Driver) : Type 0 where
@@ -36,7 +37,7 @@ pub record Match (s : Session) (op : Op) (rest : List Op) (ex : List Exchange) (
   pub long : length (s .carried) ≡ 24
   pub traced : (t : Track) → Sound t (s .code) → Traced t (s .carried) (op ∷ rest) ex
   pub owned : Owns (s .code) → Owned (s .own) (s .carried) (op ∷ rest) ex
-  pub floor : floorOf (s .code) ≤ length ex + least (op ∷ rest)
+  pub floor : floorIn (s .code) ≤ length ex + least (op ∷ rest)
   pub phase : Phase (s .code) (op ∷ rest) ex
   pub driver : s .driver ≡ afterBegun (s .code) d
 
@@ -45,7 +46,7 @@ pub record Ahead (s : Session) (k : ℕ) (ex : List Exchange) : Type 0 where
   pub told : Told (s .code) (drop k (opsOf (programOf (s .code)))) ex
   pub traced : (t : Track) → Sound t (s .code) → Traced t (s .carried) (drop k (opsOf (programOf (s .code)))) ex
   pub owned : Owns (s .code) → Owned (s .own) (s .carried) (drop k (opsOf (programOf (s .code)))) ex
-  pub floor : floorOf (s .code) ≤ length ex + least (drop k (opsOf (programOf (s .code))))
+  pub floor : floorIn (s .code) ≤ length ex + least (drop k (opsOf (programOf (s .code))))
 
 -- a session between a reply and the operation at position k
 pub record Mid (s : Session) (k : ℕ) (ex : List Exchange) (d : Driver) : Type 0 where
@@ -124,7 +125,7 @@ idle-below s range rest g x = limit-some (s .code) x
 
 -- the laws of a call whose newest exchange is no idle read
 pub lawful-ended : (s : Session) (k : ℕ) (ex : List Exchange) (d : Driver) → Mid s k ex d → (x : Answer) → eqb (numberOf x) 4 ≡ false
-    → Failures (s .code) [] ex (ended x (s .transfers)) → (eqb (numberOf x) 0 ≡ true → floorOf (s .code) ≤ length ex)
+    → Failures (s .code) [] ex (ended x (s .transfers)) → (eqb (numberOf x) 0 ≡ true → floorIn (s .code) ≤ length ex)
     → (eqb (numberOf x) 0 ≡ true → s .code ≡ 15 → valuesOf x ≡ budgetOfFirst ex ∷ []) → Lawful (runOf (s .code) (s .a) (s .b) ex (ended x (s .transfers)))
 lawful-ended s k ex d m x n f fl v =
     record {
@@ -133,7 +134,7 @@ lawful-ended s k ex d m x n f fl v =
       failure = f;
       figure = omega (arith, m .count);
       value = v;
-      floor = λ h. omega (arith, fl h, claim-floor (s .code));
+      floor = λ h. omega (arith, fl h);
     }
 
 lawful-waiting : (s : Session) (op : Op) (rest : List Op) (ex : List Exchange) (d : Driver) → Match s op rest ex d
@@ -154,7 +155,7 @@ fine-waiting s op rest ex d m =
     record { same-code = refl; same-a = refl; same-b = refl; op = op; rest = rest; is = refl; match = m; lawful = lawful-waiting s op rest ex d m }
 
 -- the end of a call: with no failure, or after a failed range read and both clearing writes
-module _ (s : Session) (k : ℕ) (ex : List Exchange) (d : Driver) (m : Mid s k ex d) (tr : (t : Track) → Sound t (s .code) → Traced t (s .carried) [] ex) (ow : Owns (s .code) → Owned (s .own) (s .carried) [] ex) (fl : floorOf (s .code) ≤ length ex) where
+module _ (s : Session) (k : ℕ) (ex : List Exchange) (d : Driver) (m : Mid s k ex d) (tr : (t : Track) → Sound t (s .code) → Traced t (s .carried) [] ex) (ow : Owns (s .code) → Owned (s .own) (s .carried) [] ex) (fl : floorIn (s .code) ≤ length ex) where
   clean-end : AllGood ex → (f : Final) → FinalOk (s .code) (ctxOf s) f → Fine (s .code) (s .a) (s .b) ex d (conclude f s)
   clean-end g (success v d′) h =
       record {
@@ -165,7 +166,7 @@ module _ (s : Session) (k : ℕ) (ex : List Exchange) (d : Driver) (m : Mid s k 
   clean-end g (failure e) h = record { rests = refl; fields = held-is (s .code) d (s .driver) (m .driver); lawful = lawful-ended s k ex d m (Answer.BusError e) refl (good-any (s .code) [] ex _ g) (λ h. untrue h) (λ h. untrue h) }
 
 pub end-fine : (s : Session) (k : ℕ) (ex : List Exchange) (d : Driver) → Mid s k ex d → ((t : Track) → Sound t (s .code) → Traced t (s .carried) [] ex)
-    → (Owns (s .code) → Owned (s .own) (s .carried) [] ex) → floorOf (s .code) ≤ length ex → Phase (s .code) [] ex → Fine (s .code) (s .a) (s .b) ex d (conclude (programOf (s .code) .final (ctxOf s)) s)
+    → (Owns (s .code) → Owned (s .own) (s .carried) [] ex) → floorIn (s .code) ≤ length ex → Phase (s .code) [] ex → Fine (s .code) (s .a) (s .b) ex d (conclude (programOf (s .code) .final (ctxOf s)) s)
 end-fine s k ex d m tr ow fl (clean g) = clean-end s k ex d m tr ow fl g (programOf (s .code) .final (ctxOf s)) (final-law (s .code) (ctxOf s))
 end-fine s k ex d m tr ow fl (tidy0 r adr e q g) = let z : _≡_ {A = ℕ} 0 1 = cc in absurd (omega arith)
 end-fine s k ex d m tr ow fl (tidy1 r adr e adr′ bs q g) = let z : _≡_ {A = ℕ} 0 1 = cc in absurd (omega arith)

@@ -17,36 +17,28 @@ use Rattle.session.specs.Machine.{Session, Outcome, sent, answered, refu
 use Rattle.session.specs.Script.{Script, done, send, waitLoop, Raw, dataOf, isClean, cut, Trace, sends, refuses, waits, ends, shown, heard, play}
 use Rattle.session.specs.Claim2.{follows, drive}
 use Rattle.session.proofs.Facts.{cond-same, drop-next}
-use Rattle.session.proofs.Resume.{concluded, decideS, failS, resume}
+use Rattle.session.specs.Left.{resumeIn, concluded, decideS, failS, resume}
 use Rattle.session.proofs.Good.{limit-positive, code-test, Good, Between, good-sound, arrive-good, worst-drop, wait-left}
 use Rattle.session.proofs.Cut.{stray-is, react-cut}
 
 abbrev pub finOf : Session → Ctx → Final
 finOf s = programOf (s .code) .final
 
--- what is left of a call whose operation `op` is out, after i idle reads of it
-abbrev pub resumeIn : (Ctx → Final) → ℕ → Op → List Op → Ctx → Script
-resumeIn fin i (write reg bytes len over after) rest c = resume fin zero (write reg bytes len over after ∷ rest) c
-resumeIn fin i (read reg len slot over after) rest c = resume fin zero (read reg len slot over after ∷ rest) c
-resumeIn fin i (wait w) rest c =
-    waitLoop (waitLimit (c .code) w - i) (sendOf (wait w) c) (idleOn w) (failS c) (done Answer.Timeout (c .driver)) (resume fin zero rest c)
-resumeIn fin i range rest c = resume fin zero (range ∷ rest) c
-
-resume-first : (fin : Ctx → Final) (op : Op) (rest : List Op) (c : Ctx) → resumeIn fin 0 op rest c ≡ resume fin zero (op ∷ rest) c
+pub resume-first : (fin : Ctx → Final) (op : Op) (rest : List Op) (c : Ctx) → resumeIn fin 0 op rest c ≡ resume fin zero (op ∷ rest) c
 resume-first fin (write reg bytes len over after) rest c = refl
 resume-first fin (read reg len slot over after) rest c = refl
 resume-first fin (wait w) rest c = rw sub-zero
 resume-first fin range rest c = refl
 
-resume-skip : (fin : Ctx → Final) (n : ℕ) (l : List Op) (c : Ctx) → resume fin n l c ≡ resume fin zero (drop n l) c
+pub resume-skip : (fin : Ctx → Final) (n : ℕ) (l : List Op) (c : Ctx) → resume fin n l c ≡ resume fin zero (drop n l) c
 resume-skip fin zero l c = refl
 resume-skip fin (suc n) [] c = refl
 resume-skip fin (suc n) (op ∷ l) c = resume-skip fin n l c
 
--- a script that has sent its transfer hears the reply, cut to what was asked for
-abbrev hears : Script → Reply → List Raw → Trace
-hears (done a d) x rs = ends a d
-hears (send t k) x rs = play (k x) rs
+-- a script that has sent its transfer plays the reply, and goes on
+abbrev plays : Script → Reply → List Raw → Trace
+plays (done a d) x rs = ends a d
+plays (send t k) x rs = play (k x) rs
 
 -- a reply record is taken, or refused while the transfer stays out
 abbrev taken : Transfer → Raw → Trace → Trace → Trace
@@ -188,14 +180,14 @@ module _ (rs : List Raw) (claim : Claim rs) where
   -- one reply, cut to what was asked for: what the machine does with it, and what the script does
   turn-wait : (s : Session) (w : Condition) (rest : List Op) → Good s (wait w) rest → (x : Reply) (n : ℕ) → waitLimit (s .code) w - s .idle ≡ n
       → drive rs (react (wait w) (programOf (s .code)) s x)
-      ≡ hears (waitLoop n (sendOf (wait w) (ctxOf s)) (idleOn w) (failS (ctxOf s)) (done Answer.Timeout (heldBy (s .code) (s .driver))) (resume (finOf s) zero rest (ctxOf s))) x rs
+      ≡ plays (waitLoop n (sendOf (wait w) (ctxOf s)) (idleOn w) (failS (ctxOf s)) (done Answer.Timeout (heldBy (s .code) (s .driver))) (resume (finOf s) zero rest (ctxOf s))) x rs
   unfolding waitLoop
   turn-wait s w rest g x zero e = absurd (omega (arith, wait-left s w rest g))
   turn-wait s w rest g (bad e′) (suc m) e = give-same rs (Answer.BusError (suc e′)) s
   turn-wait s w rest g (good bs) (suc m) e = wait-same s w rest m g e bs
 
   turn : (s : Session) (op : Op) (rest : List Op) → Good s op rest → (x : Reply)
-      → drive rs (react op (programOf (s .code)) s x) ≡ hears (resumeIn (finOf s) (s .idle) op rest (ctxOf s)) x rs
+      → drive rs (react op (programOf (s .code)) s x) ≡ plays (resumeIn (finOf s) (s .idle) op rest (ctxOf s)) x rs
   turn s (write reg bytes len over after) rest g (bad e) = give-same rs (Answer.BusError (reportOf (readWins (s .code)) (s .failed) (suc e))) s
   turn s (write reg bytes len over after) rest g (good bs) =
       decide-same (after (ctxOf s)) s over (suc (s .step)) rest (between-next s (write reg bytes len over after) rest g) (drop-next (s .step) (opsOf (programOf (s .code))) (g .at))
@@ -228,7 +220,7 @@ out s range rest g = refl
 in-wait : (s : Session) (w : Condition) (k : Script) (fail : ℕ → Script) (o : Script) (n : ℕ) (r : Raw) (rs : List Raw) → 1 ≤ n
     → heard (waitLoop n (sendOf (wait w) (ctxOf s)) (idleOn w) fail o k) (r ∷ rs)
     ≡ taken (sendOf (wait w) (ctxOf s)) r
-    (hears (waitLoop n (sendOf (wait w) (ctxOf s)) (idleOn w) fail o k) (cut (sendOf (wait w) (ctxOf s)) (r .failure) (dataOf r)) rs)
+    (plays (waitLoop n (sendOf (wait w) (ctxOf s)) (idleOn w) fail o k) (cut (sendOf (wait w) (ctxOf s)) (r .failure) (dataOf r)) rs)
     (heard (waitLoop n (sendOf (wait w) (ctxOf s)) (idleOn w) fail o k) rs)
 unfolding heard play waitLoop
 in-wait s w k fail o zero r rs h = absurd (omega arith)
@@ -237,7 +229,7 @@ in-wait s w k fail o (suc m) r rs h = refl
 into : (s : Session) (op : Op) (rest : List Op) → Good s op rest → (r : Raw) (rs : List Raw)
     → heard (resumeIn (finOf s) (s .idle) op rest (ctxOf s)) (r ∷ rs)
     ≡ taken (sendOf op (ctxOf s)) r
-    (hears (resumeIn (finOf s) (s .idle) op rest (ctxOf s)) (cut (sendOf op (ctxOf s)) (r .failure) (dataOf r)) rs)
+    (plays (resumeIn (finOf s) (s .idle) op rest (ctxOf s)) (cut (sendOf op (ctxOf s)) (r .failure) (dataOf r)) rs)
     (heard (resumeIn (finOf s) (s .idle) op rest (ctxOf s)) rs)
 unfolding heard play
 into s (write reg bytes len over after) rest g r rs = refl

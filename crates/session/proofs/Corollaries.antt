@@ -1,5 +1,5 @@
 -- What demand 3 says in other words: the last n exchanges of a call, and the transfers of a bring-up.
-use mathlib.Core.Path.{_≡_, subst}
+use mathlib.Core.Path.{subst}
 use mathlib.Core.Logic.{_↔_}
 use mathlib.Core.Bool.{Bool, true, false, _&&_, cond}
 use mathlib.Core.List.{List, [], _∷_}
@@ -9,15 +9,9 @@ use native.Mathlib.Nat.{le-of-suc-le-suc, not-suc-le-zero}
 use lib.Dec.{T}
 use Rattle.session.specs.Bus.{Condition}
 use Rattle.session.specs.Machine.{freshSession}
-use Rattle.session.specs.History.{runDef, Exchange, CallRun, callsOf, transfersOf}
-use Rattle.session.specs.Claim3.{ceilingIn, floorIn, readOf, idleReply, idleReads, isDone, All, Lawful}
+use Rattle.session.specs.History.{runDef, Exchange, callsOf, transfersOf}
+use Rattle.session.specs.Claim3.{ceilingIn, floorIn, readOf, idleReply, idleReads, All, Lawful, LastIdle, BringUpCount}
 use Rattle.session.proofs.Demand3.{demand-3}
-
--- the last n exchanges are there, and each is an idle read of the wait
-abbrev pub LastIdle : ℕ → Condition → ℕ → List Exchange → Type 0
-LastIdle zero x code es = Unit {0}
-LastIdle (suc n) x code [] = ⊥
-LastIdle (suc n) x code (e ∷ es) = T (readOf x code (e .sent) es && idleReply x (e .reply)) × LastIdle n x code es
 
 pub last-idle : (n : ℕ) (x : Condition) (code : ℕ) (es : List Exchange) → (n ≤ idleReads x code es) ↔ LastIdle n x code es
 last-idle zero x code es = (λ h. tt, λ h. zero-le)
@@ -32,10 +26,6 @@ last-idle (suc n) x code (e ∷ es) = go (readOf x code (e .sent) es && idleRepl
 all-map : {A : Type 0} (P Q : A → Type 0) → ((a : A) → P a → Q a) → (l : List A) → All P l → All Q l
 all-map P Q f [] h = tt
 all-map P Q f (a ∷ l) h = (f a (h .0), all-map P Q f l (h .1))
-
--- a bring-up that is answered Done has made 149 to 85,688 transfers
-abbrev pub BringUpCount : CallRun → Type 0
-BringUpCount c = c .code ≡ 1 → isDone (c .standing) ≡ true → (149 ≤ transfersOf c) × (transfersOf c ≤ 85688)
 
 pub bring-up-count : (bytes : List ℕ) → All BringUpCount (callsOf (runDef freshSession bytes .history))
 unfolding floorIn ceilingIn

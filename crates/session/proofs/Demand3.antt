@@ -6,48 +6,61 @@ use Prim.Native.Nat.{ℕ, _≤_, _+_, zero-le}
 use native.Mathlib.Omega.{arith}
 use lib.Dec.{eqb}
 use lib.ListN.{length}
-use Rattle.session.specs.Bus.{Answer, Reply}
-use Rattle.session.specs.Machine.{Session, Outcome, sent, answered, refused, broken, freshSession, toReply, begun}
+use Rattle.session.specs.Bus.{Driver, Answer, Reply}
+use Rattle.session.specs.Instructions.{Op, sendOf}
+use Rattle.session.specs.Machine.{Session, Outcome, sent, answered, refused, broken, resting, freshSession, ctxOf, toReply, illFormed, begun}
 use Rattle.session.specs.Records.{Record, call, reply, other, recordsOf, isWhole, stepDef}
 use Rattle.session.specs.Script.{heard}
-use Rattle.session.specs.History.{Got, transfer, answer, refusal, Entry, isTransfer, isAnswer, isRefused, isAcceptedCall, callsIn, answersIn, repliesIn, transfersIn, refusedIn, countsOf, Run, stopped, taking, runFrom, runRecords, runDef, inOrder, Standing, waiting, ended, CallRun, replied, place, callsOf, isWaiting, waitingIn}
-use Rattle.session.specs.Claim3.{waitingCode, waitingTransfers, Demand3}
+use Rattle.session.specs.RustBringUp.{calls}
+use Rattle.session.specs.History.{Got, transfer, answer, refusal, Entry, isTransfer, isAnswer, isRefused, isAcceptedCall, callsIn, answersIn, repliesIn, transfersIn, refusedIn, countsOf, Run, stopped, taking, runFrom, runRecords, runDef, gotOf, sessionOf, sessionAfter, Genuine, inOrder, Exchange, Standing, waiting, ended, CallRun, replied, joined, callsOf, isWaiting, waitingIn, transfersOf}
+use Rattle.session.specs.Claim3.{ofWaiting, Demand3}
 use Rattle.session.proofs.Facts.{cond-case}
+use Rattle.session.proofs.Good.{code-test, good-sound}
+use Rattle.session.proofs.Runs.{genuine-more}
 use Rattle.session.proofs.Up.{up-is, fields-are, down}
+use Rattle.session.proofs.Arrivals.{Match, runOf}
 use Rattle.session.proofs.Keeps.{Now, rests, waits, Inv, Step, StepOk, step-ok}
 
 -- the run
-record InvH (s : Session) (h : List Entry) : Type 0 where
+record InvH (s₀ s : Session) (h : List Entry) : Type 0 where
+  here : s ≡ sessionAfter s₀ h
+  genuine : Genuine s₀ h
   inv : Inv s (callsOf h) (transfersIn h) (repliesIn h)
   counts : length h ≡ callsIn h + repliesIn h + refusedIn h
 
-record RunOk (n : ℕ) (all : List Record) (run : Run) : Type 0 where
+record RunOk (s₀ : Session) (n : ℕ) (all : List Record) (run : Run) : Type 0 where
   answered : run .answer ≡ Answer.Done 0
   records : inOrder (run .history) [] ≡ all
   tallied : run .counts ≡ countsOf (run .history)
   whole : length (run .history) ≡ n
-  laws : InvH (run .session) (run .history)
+  laws : InvH s₀ (run .session) (run .history)
 
-run-ok : (s₀ : Session) (rs : List Record) (s : Session) (h : List Entry) → InvH s h → RunOk (length h + length rs) (inOrder h rs) (runFrom s₀ rs s h)
+-- a session that a run has led to is not ill-formed
+never-ill : (s : Session) (cs : List CallRun) → Now s cs → illFormed s ≡ false
+never-ill s cs (rests e w) = ap (λ z. illFormed z) e
+never-ill s cs (waits op rest m w) = rw (code-test (s .code) (s .a) (s .b) (m .good .args)) (good-sound s op rest (m .good))
+
+run-ok : (s₀ : Session) (rs : List Record) (s : Session) (h : List Entry) → InvH s₀ s h → RunOk s₀ (length h + length rs) (inOrder h rs) (runFrom s₀ rs s h)
 unfolding runFrom
 run-ok s₀ [] s h i = record { answered = refl; records = refl; tallied = refl; whole = omega arith; laws = i }
 run-ok s₀ (r ∷ rs) s h i =
-    on (stepDef s r) (step-ok s (callsOf h) (transfersIn h) (repliesIn h) r (i .inv)) (run-ok s₀ rs)
+    on (stepDef s r) refl (step-ok s (callsOf h) (transfersIn h) (repliesIn h) r (i .inv)) (run-ok s₀ rs)
   where
-    next : (s′ : Session) (g : Got) → Step s′ r (callsOf h) (transfersIn h) (repliesIn h) g
-        → ((s″ : Session) (h″ : List Entry) → InvH s″ h″ → RunOk (length h″ + length rs) (inOrder h″ rs) (runFrom s₀ rs s″ h″))
-        → RunOk (length h + length (r ∷ rs)) (inOrder h (r ∷ rs)) (runFrom s₀ rs s′ (record { what = r; got = g } ∷ h))
-    next s′ g fits k =
-        let q = k s′ (record { what = r; got = g } ∷ h) (record { inv = fits .1; counts = omega (arith, fits .0, i .counts) }) in
+    next : (o : Outcome) → stepDef s r ≡ o → Step (sessionOf o) r (callsOf h) (transfersIn h) (repliesIn h) (gotOf o)
+        → ((s″ : Session) (h″ : List Entry) → InvH s₀ s″ h″ → RunOk s₀ (length h″ + length rs) (inOrder h″ rs) (runFrom s₀ rs s″ h″))
+        → RunOk s₀ (length h + length (r ∷ rs)) (inOrder h (r ∷ rs)) (runFrom s₀ rs (sessionOf o) (record { what = r; got = gotOf o } ∷ h))
+    next o e fits k =
+        let m = genuine-more s₀ s h r o (i .here) (i .genuine) (never-ill s (callsOf h) (i .inv .now)) e in
+        let q = k (sessionOf o) (record { what = r; got = gotOf o } ∷ h) (record { here = m .1; genuine = m .0; inv = fits .1; counts = omega (arith, fits .0, i .counts) }) in
         record { answered = q .answered; records = q .records; tallied = q .tallied; whole = q .whole ∙ omega arith; laws = q .laws }
 
-    on : (o : Outcome) → StepOk s r (callsOf h) (transfersIn h) (repliesIn h) o
-        → ((s″ : Session) (h″ : List Entry) → InvH s″ h″ → RunOk (length h″ + length rs) (inOrder h″ rs) (runFrom s₀ rs s″ h″))
-        → RunOk (length h + length (r ∷ rs)) (inOrder h (r ∷ rs)) (taking o s₀ h r (runFrom s₀ rs))
-    on (sent x s′) fits k = next s′ (transfer x) fits k
-    on (answered x n s′) fits k = next s′ (answer x n) fits k
-    on (refused x s′) fits k = next s′ (refusal x) fits k
-    on (broken s′) fits k = absurd fits
+    on : (o : Outcome) → stepDef s r ≡ o → StepOk s r (callsOf h) (transfersIn h) (repliesIn h) o
+        → ((s″ : Session) (h″ : List Entry) → InvH s₀ s″ h″ → RunOk s₀ (length h″ + length rs) (inOrder h″ rs) (runFrom s₀ rs s″ h″))
+        → RunOk s₀ (length h + length (r ∷ rs)) (inOrder h (r ∷ rs)) (taking o s₀ h r (runFrom s₀ rs))
+    on (sent x s′) e fits k = next (sent x s′) e fits k
+    on (answered x n s′) e fits k = next (answered x n s′) e fits k
+    on (refused x s′) e fits k = next (refused x s′) e fits k
+    on (broken s′) e fits k = absurd fits
 
 -- each accepted call has its place, and only the last one can wait
 replied-length : (r : Reply) (st : Standing) (cs : List CallRun) → length (replied r st cs) ≡ length cs
@@ -58,7 +71,7 @@ length-calls : (h : List Entry) → callsIn h ≡ length (callsOf h)
 length-calls [] = refl
 length-calls (e ∷ h) = ap (λ n. isAcceptedCall (e .what) (e .got) + n) (length-calls h) ∙ go (e .what) (e .got) (callsOf h)
   where
-    go : (w : Record) (g : Got) (cs : List CallRun) → isAcceptedCall w g + length cs ≡ length (place w g cs)
+    go : (w : Record) (g : Got) (cs : List CallRun) → isAcceptedCall w g + length cs ≡ length (joined w g cs)
     go (call code a b) (transfer t) cs = omega arith
     go (call code a b) (answer x n) cs = omega arith
     go (call code a b) (refusal x) cs = omega arith
@@ -86,22 +99,19 @@ none-waiting : (st : Standing) (n : ℕ) → isWaiting st + n ≡ 0 → eqb (isW
 none-waiting (waiting t) n e = absurd (omega (arith, e))
 none-waiting (ended x m) n e = refl
 
-code-of : (s : Session) (cs : List CallRun) → Now s cs → s .code ≡ waitingCode cs
-code-of s [] (rests e w) = ap (λ x. x .code) e
-code-of s (c ∷ cs) (rests e w) = rw (none-waiting (c .standing) (waitingIn cs) w) (ap (λ x. x .code) e)
-code-of s cs (waits op rest m w) = refl
-
-transfers-of : (s : Session) (cs : List CallRun) → Now s cs → s .transfers ≡ waitingTransfers cs
-transfers-of s [] (rests e w) = ap (λ x. x .transfers) e
-transfers-of s (c ∷ cs) (rests e w) = rw (none-waiting (c .standing) (waitingIn cs) w) (ap (λ x. x .transfers) e)
-transfers-of s cs (waits op rest m w) = omega (arith, m .count)
+of-waiting : (f : CallRun → ℕ) (s : Session) (g : Session → ℕ) (cs : List CallRun) → g (resting (s .driver)) ≡ 0
+    → ((op : Op) (rest : List Op) (ex : List Exchange) (d : Driver) → Match s op rest ex d → g s ≡ f (runOf (s .code) (s .a) (s .b) ex (waiting (sendOf op (ctxOf s)))))
+    → Now s cs → g s ≡ ofWaiting f cs
+of-waiting f s g [] z k (rests e w) = ap g e ∙ z
+of-waiting f s g (c ∷ cs) z k (rests e w) = rw (none-waiting (c .standing) (waitingIn cs) w) (ap g e ∙ z)
+of-waiting f s g cs z k (waits op rest m w) = k op rest _ _ m
 
 -- the records of a whole list
 of-records : (bytes : List ℕ) → isWhole bytes ≡ true → Demand3 bytes (runRecords freshSession (recordsOf bytes))
 unfolding runRecords
 of-records bytes e =
     let rs = recordsOf bytes in
-    let q = run-ok freshSession rs freshSession [] (record { inv = record { sum = refl; made = refl; heard = refl; lawful = tt; driver = refl; begun-up = tt; now = rests refl refl }; counts = refl }) in
+    let q = run-ok freshSession rs freshSession [] (record { here = refl; genuine = tt; inv = record { sum = refl; made = refl; heard = refl; lawful = tt; driver = refl; begun-up = tt; now = rests refl refl }; counts = refl }) in
     let h = runFrom freshSession rs freshSession [] .history in
     let i = q .laws .inv in
     record {
@@ -120,8 +130,12 @@ of-records bytes e =
       heard = i .heard;
       one = at-most-one _ (i .now);
       begun-up = i .begun-up;
-      code = code-of _ (callsOf h) (i .now);
-      transfers = transfers-of _ (callsOf h) (i .now);
+      genuine = q .laws .genuine;
+      session = q .laws .here;
+      code = of-waiting (λ c. c .code) _ (λ z. z .code) (callsOf h) refl (λ op rest ex d m. refl) (i .now);
+      a = of-waiting (λ c. c .a) _ (λ z. z .a) (callsOf h) refl (λ op rest ex d m. refl) (i .now);
+      b = of-waiting (λ c. c .b) _ (λ z. z .b) (callsOf h) refl (λ op rest ex d m. refl) (i .now);
+      transfers = of-waiting transfersOf _ (λ z. z .transfers) (callsOf h) refl (λ op rest ex d m. omega (arith, m .count)) (i .now);
     }
 
 -- spare bytes: nothing is run
@@ -143,7 +157,11 @@ of-spare bytes e =
       heard = refl;
       one = zero-le;
       begun-up = tt;
+      genuine = tt;
+      session = refl;
       code = refl;
+      a = refl;
+      b = refl;
       transfers = refl;
     }
 

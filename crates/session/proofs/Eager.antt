@@ -16,7 +16,7 @@ use Rattle.session.specs.Calls.{Program, opsOf, tuning, programs, progra
 use Rattle.session.specs.Script.{Script, done, send, onReply, waitLoop}
 use Rattle.session.proofs.Facts.{both}
 use Rattle.session.proofs.Table.{of-table}
-use Rattle.session.proofs.Resume.{keeping, failS, resume}
+use Rattle.session.specs.Left.{keeping, failS, resume}
 use Rattle.session.proofs.Once.{Kind, timing, last, other, kindOf, onceBy, onceOf}
 use Rattle.session.proofs.Tests.{none-known, first-agrees, word-agrees, place-same, verdict-same}
 use Rattle.session.proofs.Later.{later-stays}

@@ -14,11 +14,12 @@ use Rattle.session.specs.Instructions.{stop, timingSlot, budgetIn}
 use Rattle.session.specs.Steps.{slot}
 use Rattle.session.specs.Calls.{tuning, broughtUp, programs, programOf}
 use Rattle.session.specs.History.{Exchange}
-use Rattle.session.specs.Claim3.{firstByte, budgetOfFirst, upBy, afterDone, afterBegun}
+use Rattle.session.specs.Claim3.{firstByte, budgetOfFirst, upBy, afterDone}
 use Rattle.session.proofs.Laws.{leaves}
 use Rattle.session.proofs.Trace.{Track, Sound, Traced}
 use Rattle.session.proofs.Owned.{Owns, Owned}
 use Rattle.session.proofs.Value.{value-is}
+use Rattle.session.proofs.Up.{afterBegun}
 
 abbrev reads : ℕ → ℕ → ℕ → Track
 reads reg slot len = record { reg = reg; slot = slot; len = len }

@@ -8,7 +8,8 @@ use native.Mathlib.Omega.{arith}
 use native.Mathlib.Bridge.{le-by-compare, IsLe}
 use lib.ListN.{getD, drop}
 use Rattle.session.specs.Instructions.{Op}
-use Rattle.session.specs.Calls.{opsOf, tuning, programs, programOf, floors, floorOf, argumentsOk}
+use Rattle.session.specs.Calls.{opsOf, tuning, programs, programOf, argumentsOk}
+use Rattle.session.specs.Claim3.{floorIn}
 use Rattle.session.proofs.Table.{by-code}
 use Rattle.session.proofs.Shape.{overOf}
 
@@ -28,10 +29,10 @@ abbrev pub least : List Op → ℕ
 least ops = getD (leasts ops) 0 0
 
 abbrev FloorOk : ℕ → Type 0
-FloorOk code = floorOf code ≤ least (opsOf (programOf code))
+FloorOk code = floorIn code ≤ least (opsOf (programOf code))
 
-pub floor-law : (code a b : ℕ) → argumentsOk code a b ≡ true → floorOf code ≤ least (opsOf (programOf code))
-unfolding programOf programs floorOf floors tuning IsLe
+pub floor-law : (code a b : ℕ) → argumentsOk code a b ≡ true → floorIn code ≤ least (opsOf (programOf code))
+unfolding programOf programs floorIn tuning IsLe
 floor-law =
     by-code FloorOk
     (le-by-compare 149 149 tt, (le-by-compare 1 1 tt, (le-by-compare 1 1 tt, (le-by-compare 8 8 tt, (le-by-compare 6 6 tt, (le-by-compare 4 4 tt, (le-by-compare 4 4 tt, (le-by-compare 13 13 tt, (le-by-compare 7 7 tt, (le-by-compare 2 2 tt, (le-by-compare 2 2 tt, (le-by-compare 5 5 tt, (le-by-compare 2 2 tt, (le-by-compare 1 1 tt, (le-by-compare 6 6 tt, tt)))))))))))))))

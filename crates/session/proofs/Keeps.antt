@@ -13,13 +13,13 @@ use Rattle.session.specs.Calls.{opsOf, programOf, argumentsOk}
 use Rattle.session.specs.Machine.{Session, Outcome, sent, answered, refused, broken, resting, ctxOf, decide, react, toReply, stray, replyDef, begun, notUp, beginDef, otherDef}
 use Rattle.session.specs.Records.{Record, call, reply, other, stepDef}
 use Rattle.session.specs.Script.{heard}
-use Rattle.session.specs.History.{Got, transfer, answer, refusal, isTransfer, isRefused, isAcceptedCall, isAcceptedReply, Exchange, by, waiting, ended, CallRun, place, waitingIn, transfersOf}
-use Rattle.session.specs.Claim3.{afterBegun, isUp, BegunUp, All, Lawful, sumOf, repliesOf}
+use Rattle.session.specs.History.{Got, transfer, answer, refusal, isTransfer, isRefused, isAcceptedCall, isAcceptedReply, Exchange, by, waiting, ended, CallRun, joined, waitingIn, transfersOf}
+use Rattle.session.specs.Claim3.{isUp, BegunUp, All, Lawful, sumOf, repliesOf}
 use Rattle.session.proofs.Facts.{cond-case, untrue}
 use Rattle.session.proofs.Good.{code-test, good-sound}
 use Rattle.session.proofs.Bisim.{begun-marked}
 use Rattle.session.proofs.Phase.{clean}
-use Rattle.session.proofs.Up.{fieldsOf, up-is, begun-while-up}
+use Rattle.session.proofs.Up.{fieldsOf, up-is, begun-while-up, afterBegun}
 use Rattle.session.proofs.Shape.{firstOk, opens-law, known-at}
 use Rattle.session.proofs.Floor.{floor-law}
 use Rattle.session.proofs.Told.{Told, told-first}
@@ -46,7 +46,7 @@ abbrev pub Kind : Record → Got → Type 0
 Kind w g = 1 ≡ isAcceptedCall w g + isAcceptedReply w g + isRefused g
 
 abbrev pub Step : Session → Record → List CallRun → ℕ → ℕ → Got → Type 0
-Step s rec cs t r g = Kind rec g × Inv s (place rec g cs) (isTransfer g + t) (isAcceptedReply rec g + r)
+Step s rec cs t r g = Kind rec g × Inv s (joined rec g cs) (isTransfer g + t) (isAcceptedReply rec g + r)
 
 abbrev pub StepOk : Session → Record → List CallRun → ℕ → ℕ → Outcome → Type 0
 StepOk s rec cs t r (sent x s′) = Step s′ rec cs t r (transfer x)

@@ -2,7 +2,6 @@
 pub mod Facts
 pub mod Table
 pub mod Slots
-pub mod Resume
 pub mod Good
 pub mod Cut
 pub mod Accepts
@@ -14,8 +13,11 @@ pub mod Single
 pub mod Refused
 pub mod Demand1
 pub mod AtOnce
+pub mod Ill
+pub mod Runs
 -- demand 2: the machine is the script of its instructions
 pub mod Bisim
+pub mod OneStep
 pub mod Once
 pub mod Tests
 pub mod Later
@@ -42,14 +44,13 @@ pub mod Told
 pub mod Trace
 pub mod Owned
 pub mod Value
-pub mod Fields
 pub mod Up
+pub mod Fields
 -- one reply, one record, one list
 pub mod Arrivals
 pub mod React
 pub mod Keeps
 pub mod Demand3
-pub mod Runs
 pub mod Corollaries
 -- waits over any limit, and values
 pub mod Waits

@@ -7,17 +7,13 @@ use native.Mathlib.Omega.{arith}
 use lib.Dec.{eqb}
 use Rattle.session.specs.Bus.{byte, Condition, detectorReady, statusReady, started, waitLimit, idleOn}
 use Rattle.session.specs.Instructions.{worst}
-use Rattle.session.specs.Calls.{opsOf, programOf, ceilings, ceilingOf, floors, floorOf}
-use Rattle.session.specs.Claim3.{ceilingIn, floorIn, limitIn, unmet}
+use Rattle.session.specs.Calls.{opsOf, programOf, ceilings, ceilingOf}
+use Rattle.session.specs.Claim3.{ceilingIn, limitIn, unmet}
 use Rattle.session.proofs.Good.{ceiling-law}
 
 pub claim-ceiling : (code : ℕ) → worst code (opsOf (programOf code)) ≤ ceilingIn code
 unfolding ceilingIn ceilingOf ceilings
 claim-ceiling code = ceiling-law code
-
-pub claim-floor : (code : ℕ) → floorIn code ≡ floorOf code
-unfolding floorIn floorOf floors
-claim-floor code = refl
 
 pub unmet-is : (x : Condition) (bs : List ℕ) → unmet x bs ≡ idleOn x bs
 unfolding unmet idleOn

@@ -10,7 +10,7 @@ use Rattle.session.specs.Instructions.{Instruction, Ctx, Verdict, Op, wr
 use Rattle.session.specs.Steps.{slot, pass, opOf}
 use Rattle.session.specs.Calls.{programOf}
 use Rattle.session.specs.History.{Exchange, by, Standing, waiting, ended}
-use Rattle.session.specs.Claim3.{rangeFailure, reported, first-out, first-failed, second-out, second-failed, both-good, OnReply, Failures}
+use Rattle.session.specs.Claim3.{rangeFailure, reported, first-out, first-failed, second-out, second-failed, both-good, AfterReply, Failures}
 use Rattle.session.proofs.Laws.{clearOps}
 
 abbrev pub IsGood : Reply → Type 0
@@ -44,7 +44,7 @@ pub data Phase (code : ℕ) (ops : List Op) : List Exchange → Type 0 where
   tidy2 : {ex : List Exchange} → Ranged code → (adr e : ℕ) (adr′ : ℕ) (bs : List ℕ) (adr″ : ℕ) (bs′ : List ℕ) → ops ≡ [] → AllGood ex
       → Phase code ops (by (clearSent adr″ 0) (good bs′) ∷ by (clearSent adr′ 1) (good bs) ∷ by (rangeSent adr) (bad e) ∷ ex)
 
-reply-good : (code : ℕ) (t : Transfer) (r : Reply) (later es : List Exchange) (st : Standing) → IsGood r → OnReply code t r later es st
+reply-good : (code : ℕ) (t : Transfer) (r : Reply) (later es : List Exchange) (st : Standing) → IsGood r → AfterReply code t r later es st
 reply-good code t (bad e) later es st g = absurd g
 reply-good code t (good bs) later es st g = tt
 

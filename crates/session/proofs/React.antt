@@ -8,20 +8,20 @@ use lib.Dec.{eqb, ltb}
 use lib.ListN.{length, drop}
 use lib.Seq.{drop-drop}
 use borrow.Author.Tests.{ltb-true, ltb-false, eqb-true, not-false}
-use Rattle.session.specs.Bus.{Driver, Answer, Reply, bad, good, failureIn, Condition, waitLimit, idleOn, sameOn}
+use Rattle.session.specs.Bus.{Driver, Answer, Reply, bad, good, failureIn, Condition, waitLimit, idleOn}
 use Rattle.session.specs.Instructions.{Ctx, Verdict, Op, write, read, wait, range, failure, sendOf, keptBytes, keptFailure, readWins, reportOf}
 use Rattle.session.specs.Steps.{slot}
-use Rattle.session.specs.Calls.{opsOf, programOf, floorOf}
+use Rattle.session.specs.Calls.{opsOf, programOf}
 use Rattle.session.specs.Machine.{Session, sent, ctxOf, keptOf, sending, giving, arrive, decide, react}
 use Rattle.session.specs.History.{Exchange, by}
-use Rattle.session.specs.Claim3.{readOf, unmet, idleReads, rangeRead, rangeFailure, reported}
+use Rattle.session.specs.Claim3.{readOf, unmet, idleReads, rangeRead, rangeFailure, reported, floorIn}
 use Rattle.session.proofs.Facts.{cond-case, drop-next, untrue}
 use Rattle.session.proofs.Good.{Good, Between}
 use Rattle.session.proofs.Bisim.{between-next, idle-more}
 use Rattle.session.proofs.Laws.{range-law, range-at}
 use Rattle.session.proofs.Phase.{IsGood, AllGood, Ranged, Phase, clean, tidy0, good-any, phase-failed, AfterWrite, cleanly, tidily, phase-write, phase-clean}
 use Rattle.session.proofs.Own.{claim-ceiling, unmet-is, limit-is}
-use Rattle.session.proofs.Shape.{waitsOn, isRange, and-false, overOf, leaps, Known, known-at, one-byte}
+use Rattle.session.proofs.Shape.{waitsOn, isRange, and-false, overOf, leaps, Known, known-at, one-byte, sameOn}
 use Rattle.session.proofs.Floor.{floor-next, floor-leap}
 use Rattle.session.proofs.Told.{Told, told-next, told-write, told-again}
 use Rattle.session.proofs.Trace.{trace-skip, GoesOn, trace-step, trace-again, trace-late, length-kept}
@@ -97,7 +97,7 @@ ahead-of s op rest ex d m r g =
       told = go (drop (suc (s .step)) (opsOf (programOf (s .code)))) refl;
       traced = λ t q. rw (drop-next (s .step) (opsOf (programOf (s .code))) (m .good .at)) (trace-step t op rest (ctxOf s) r (s .carried) ex (kn .whole) g (m .long) (m .traced t q));
       owned = λ q. rw (drop-next (s .step) (opsOf (programOf (s .code))) (m .good .at)) (own-step op rest (ctxOf s) r (s .carried) (s .own) ex (kn .whole) g (m .owned q));
-      floor = rw (drop-next (s .step) (opsOf (programOf (s .code))) (m .good .at)) (floor-next (floorOf (s .code)) (length ex) op rest (m .floor));
+      floor = rw (drop-next (s .step) (opsOf (programOf (s .code))) (m .good .at)) (floor-next (floorIn (s .code)) (length ex) op rest (m .floor));
     }
   where
     kn : Known (s .code) op rest (ctxOf s)
@@ -128,7 +128,7 @@ leap-ahead s op rest ex d m r g = go (leaps op) refl
               (trace-late t op rest (ctxOf s) r (s .carried) ex (kn .whole) a (m .traced t q))
               (trace-step t op rest (ctxOf s) r (s .carried) ex (kn .whole) g (m .long) (m .traced t q)));
           owned = λ q. rw p (own-leap op rest (ctxOf s) r (s .carried) (s .own) (overOf op) ex (kn .whole) g a (m .owned q));
-          floor = rw p (floor-leap (floorOf (s .code)) (length ex) op rest (m .floor));
+          floor = rw p (floor-leap (floorIn (s .code)) (length ex) op rest (m .floor));
         }
     go false a =
         let z : overOf op ≡ 0 = eqb-true (overOf op) 0 (not-false (eqb (overOf op) 0) a) in

@@ -1,79 +1,55 @@
--- A run from any session: it answers 14 or 15 with the session as given, or 0 with a history of the list's records in order.
-use mathlib.Core.Path.{_≡_, refl}
+-- A run from any session ends as the claim says: with 14, with 15, or through all records.
+use mathlib.Core.Path.{_≡_, refl, sym, ap, subst, _∙_}
 use mathlib.Core.Bool.{true, false}
 use mathlib.Core.List.{List, [], _∷_}
-use Prim.Native.Nat.{ℕ, _+_}
-use native.Mathlib.Omega.{arith}
-use lib.ListN.{length}
+use Prim.Native.Nat.{ℕ}
 use Rattle.session.specs.Bus.{Answer}
-use Rattle.session.specs.Machine.{Session, Outcome, sent, answered, refused, broken, illFormed, otherDef}
-use Rattle.session.specs.Records.{Record, call, reply, other, recordsOf, isWhole, stepDef}
-use Rattle.session.specs.History.{transfer, answer, refusal, Entry, callsIn, repliesIn, refusedIn, countsOf, Run, stopped, taking, runFrom, runRecords, runDef, inOrder}
+use Rattle.session.specs.Machine.{Session, Outcome, sent, answered, refused, broken, illFormed}
+use Rattle.session.specs.Records.{Record, recordsOf, isWhole, stepDef}
+use Rattle.session.specs.History.{answer, Entry, countsOf, Run, stopped, taking, runFrom, runRecords, runDef, gotOf, sessionOf, sessionAfter, Genuine, inOrder}
+use Rattle.session.specs.Claim1.{RunEnds, spare-bytes, ill-formed-given, ill-formed-met, all-run}
 use Rattle.session.proofs.Facts.{cond-case}
-use Rattle.session.proofs.Keeps.{Kind}
+use Rattle.session.proofs.Ill.{IllOf, ill-is}
 
--- every entry is an accepted call, an accepted reply or a refusal
-abbrev pub Sorted : List Entry → Type 0
-Sorted h = length h ≡ callsIn h + repliesIn h + refusedIn h
+-- one record more
+pub genuine-more : (given s : Session) (h : List Entry) (r : Record) (o : Outcome) → s ≡ sessionAfter given h → Genuine given h → illFormed s ≡ false → stepDef s r ≡ o
+    → Genuine given (record { what = r; got = gotOf o } ∷ h) × (sessionOf o ≡ sessionAfter given (record { what = r; got = gotOf o } ∷ h))
+genuine-more given s h r o here g i e =
+    let p : stepDef (sessionAfter given h) r ≡ o = ap (λ z. stepDef z r) (sym here) ∙ e in
+    ((subst (λ z. illFormed z ≡ false) here i, ap gotOf (sym p), g), ap sessionOf (sym p))
 
-pub data Ends (s : Session) (rs : List Record) : Run → Type 0 where
-  with-15 : Ends s rs (stopped Answer.IllFormedSession s)
-  with-0 : (s′ : Session) (h : List Entry) → inOrder h [] ≡ rs → Sorted h
-      → Ends s rs (record { answer = Answer.Done 0; session = s′; counts = countsOf h; history = h })
+-- what a run over the records left gives, from a session s that the history h has led to
+data Over (given : Session) (all : List Record) : Run → Type 0 where
+  met : (h : List Entry) (r : Record) (rest : List Record) → inOrder h (r ∷ rest) ≡ all → Genuine given h → illFormed (sessionAfter given h) ≡ true
+      → Over given all (stopped Answer.IllFormedSession given)
+  through : (h : List Entry) → inOrder h [] ≡ all → Genuine given h
+      → Over given all (record { answer = Answer.Done 0; session = sessionAfter given h; counts = countsOf h; history = h })
 
-abbrev KindOf : Record → Outcome → Type 0
-KindOf w (sent t s) = Kind w (transfer t)
-KindOf w (answered x n s) = Kind w (answer x n)
-KindOf w (refused x s) = Kind w (refusal x)
-KindOf w (broken s) = Unit {0}
-
-kind-of : (s : Session) (r : Record) → KindOf r (stepDef s r)
-unfolding stepDef otherDef
-kind-of s (call code a b) = go (stepDef s (call code a b))
-  where
-    go : (o : Outcome) → KindOf (call code a b) o
-    go (sent t s′) = refl
-    go (answered x n s′) = refl
-    go (refused x s′) = refl
-    go (broken s′) = tt
-kind-of s (reply f bs) = go (stepDef s (reply f bs))
-  where
-    go : (o : Outcome) → KindOf (reply f bs) o
-    go (sent t s′) = refl
-    go (answered x n s′) = refl
-    go (refused x s′) = refl
-    go (broken s′) = tt
-kind-of s other = cond-case (KindOf other) (illFormed s) (λ e. tt) (λ e. refl)
-
-from : (s₀ : Session) (rs : List Record) (s : Session) (h : List Entry) → Sorted h → Ends s₀ (inOrder h rs) (runFrom s₀ rs s h)
+over : (given : Session) (rs : List Record) (s : Session) (h : List Entry) → s ≡ sessionAfter given h → Genuine given h → Over given (inOrder h rs) (runFrom given rs s h)
 unfolding runFrom
-from s₀ [] s h k = with-0 s h refl k
-from s₀ (r ∷ rs) s h k = go (stepDef s r) (kind-of s r) (λ s′ h′ k′. from s₀ rs s′ h′ k′)
+over given [] s h here g = subst (λ z. Over given (inOrder h []) (record { answer = Answer.Done 0; session = z; counts = countsOf h; history = h })) (sym here) (through h refl g)
+over given (r ∷ rs) s h here g = go (stepDef s r) refl (ill-is s r) (over given rs)
   where
-    go : (o : Outcome) → KindOf r o → ((s′ : Session) (h′ : List Entry) → Sorted h′ → Ends s₀ (inOrder h′ rs) (runFrom s₀ rs s′ h′)) → Ends s₀ (inOrder h (r ∷ rs)) (taking o s₀ h r (runFrom s₀ rs))
-    go (sent t s′) q f = f s′ (record { what = r; got = transfer t } ∷ h) (omega (arith, q, k))
-    go (answered x n s′) q f = f s′ (record { what = r; got = answer x n } ∷ h) (omega (arith, q, k))
-    go (refused x s′) q f = f s′ (record { what = r; got = refusal x } ∷ h) (omega (arith, q, k))
-    go (broken s′) q f = with-15
+    next : (o : Outcome) → stepDef s r ≡ o → illFormed s ≡ false
+        → ((s′ : Session) (h′ : List Entry) → s′ ≡ sessionAfter given h′ → Genuine given h′ → Over given (inOrder h′ rs) (runFrom given rs s′ h′))
+        → Over given (inOrder h (r ∷ rs)) (runFrom given rs (sessionOf o) (record { what = r; got = gotOf o } ∷ h))
+    next o e i k = let q = genuine-more given s h r o here g i e in k (sessionOf o) (record { what = r; got = gotOf o } ∷ h) (q .1) (q .0)
 
-pub records-end : (s : Session) (rs : List Record) → Ends s rs (runRecords s rs)
-unfolding runRecords
-records-end s rs = cond-case (Ends s rs) (illFormed s) (λ e. with-15) (λ e. from s rs s [] refl)
+    go : (o : Outcome) → stepDef s r ≡ o → IllOf s o
+        → ((s′ : Session) (h′ : List Entry) → s′ ≡ sessionAfter given h′ → Genuine given h′ → Over given (inOrder h′ rs) (runFrom given rs s′ h′))
+        → Over given (inOrder h (r ∷ rs)) (taking o given h r (runFrom given rs))
+    go (sent t s′) e i k = next (sent t s′) e i k
+    go (answered x n s′) e i k = next (answered x n s′) e i k
+    go (refused x s′) e i k = next (refused x s′) e i k
+    go (broken s′) e i k = met h r rs refl g (subst (λ z. illFormed z ≡ true) here i)
 
--- over bytes: spare bytes are 14, whatever the session
-pub spare-14 : (s : Session) (bytes : List ℕ) → isWhole bytes ≡ false → runDef s bytes ≡ stopped Answer.SpareBytes s
-unfolding runDef
-spare-14 s bytes e = rw e
-
-pub whole-runs : (s : Session) (bytes : List ℕ) → isWhole bytes ≡ true → Ends s (recordsOf bytes) (runDef s bytes)
-unfolding runDef
-whole-runs s bytes e = rw e (records-end s (recordsOf bytes))
-
--- an ill-formed session ends every run of whole records, also of none; a sound one gives an empty list answer 0 and itself
-pub ill-formed-15 : (s : Session) (bytes : List ℕ) → isWhole bytes ≡ true → illFormed s ≡ true → runDef s bytes ≡ stopped Answer.IllFormedSession s
+pub run-ends : (s : Session) (bytes : List ℕ) → RunEnds s bytes (runDef s bytes)
 unfolding runDef runRecords
-ill-formed-15 s bytes w e = rw (w, e)
-
-pub empty-0 : (s : Session) → illFormed s ≡ false → runDef s [] ≡ record { answer = Answer.Done 0; session = s; counts = countsOf []; history = [] }
-unfolding runDef runRecords runFrom recordsOf
-empty-0 s e = rw e
+run-ends s bytes =
+    cond-case (RunEnds s bytes) (isWhole bytes)
+    (λ w. cond-case (RunEnds s bytes) (illFormed s) (λ i. ill-formed-given w i) (λ i. go w i (runFrom s (recordsOf bytes) s []) (over s (recordsOf bytes) s [] refl tt)))
+    (λ w. spare-bytes w)
+  where
+    go : isWhole bytes ≡ true → illFormed s ≡ false → (run : Run) → Over s (recordsOf bytes) run → RunEnds s bytes run
+    go w i run (met h r rest e g m) = ill-formed-met w h r rest e g m
+    go w i run (through h e g) = all-run w i h e g

@@ -15,7 +15,7 @@ use Rattle.session.specs.Machine.{zeros}
 use Rattle.session.specs.Script.{Script}
 use Rattle.session.specs.RustClocks.{limit-contained}
 use Rattle.session.specs.RustBringUp.{enable-ref-spads, calls, rust}
-use Rattle.session.proofs.Resume.{decideS, resume}
+use Rattle.session.specs.Left.{decideS, resume}
 use Rattle.session.proofs.Once.{onceOf}
 use Rattle.session.proofs.Formulas.{period-is}
 use Rattle.session.proofs.Bits.{or-is, and-is, no-interrupt-is, start-bit-is, spad-count-is, aperture-is, raw-is, mm-is}

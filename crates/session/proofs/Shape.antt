@@ -5,13 +5,24 @@ use mathlib.Core.List.{List, [], _∷_}
 use Prim.Native.Nat.{ℕ, zero, suc}
 use lib.Dec.{eqb}
 use lib.ListN.{drop}
-use Rattle.session.specs.Bus.{transferOf, Condition, detectorReady, statusReady, started, waitRegister, sameOn}
+use Rattle.session.specs.Bus.{transferOf, Condition, detectorReady, statusReady, started, waitRegister}
 use Rattle.session.specs.Instructions.{Ctx, Op, write, read, wait, range, sendOf}
 use Rattle.session.specs.Steps.{slot}
 use Rattle.session.specs.Calls.{Program, opsOf, tuning, programs, programOf}
 use Rattle.session.specs.Claim3.{wrote, asks}
 use Rattle.session.proofs.Facts.{both}
 use Rattle.session.proofs.Table.{of-table}
+
+abbrev pub sameOn : Condition → Condition → Bool
+sameOn detectorReady detectorReady = true
+sameOn detectorReady statusReady = false
+sameOn detectorReady started = false
+sameOn statusReady detectorReady = false
+sameOn statusReady statusReady = true
+sameOn statusReady started = false
+sameOn started detectorReady = false
+sameOn started statusReady = false
+sameOn started started = true
 
 -- an operation whose transfer writes the register alone, and one that reads one byte so
 abbrev pub asksOp : ℕ → Op → Bool

@@ -14,7 +14,7 @@ use Rattle.session.specs.Machine.{Session, ctxOf, keptOf, sending, givin
 use Rattle.session.specs.Records.{Record, call, reply, other, stepDef}
 use Rattle.session.specs.Claim1.{firstOut, Single, one-transfer, one-answer, one-refusal, ill-formed}
 use Rattle.session.proofs.Facts.{cond-case}
-use Rattle.session.proofs.Sized.{on-the-bus}
+use Rattle.session.proofs.Sized.{sent-to, on-the-bus}
 
 -- the answers that end a call
 stop-answers : (x : Stop) → numberOf (stopAnswer x) ≤ 8
@@ -45,7 +45,7 @@ module _ (s : Session) where
     where
       go : (l : List Op) → drop k (opsOf (programOf (t .code))) ≡ l → Single s (enter (programOf (t .code) .final) l k t)
       go [] e = concludes (programOf (t .code) .final (ctxOf t)) t
-      go (op ∷ rest) e = one-transfer _ (sending k 0 t) (on-the-bus (t .code) k op rest (ctxOf t) e) (ap (λ l. firstOut l (ctxOf t)) (sym e))
+      go (op ∷ rest) e = one-transfer _ (sending k 0 t) (on-the-bus (t .code) k op rest (ctxOf t) e) (sent-to op (ctxOf t)) (ap (λ l. firstOut l (ctxOf t)) (sym e))
 
   decides : (v : Verdict) (over k : ℕ) (t : Session) → Single s (decide v (programOf (t .code)) over k t)
   decides onward over k t = arrives k t
@@ -64,7 +64,7 @@ module _ (s : Session) where
   reacts (wait w) rest t (good bs) at =
       cond-case (Single s) (idleOn w bs)
       (λ e. cond-case (Single s) (ltb (suc (t .idle)) (waitLimit (t .code) w))
-      (λ h. one-transfer _ (sending (t .step) (suc (t .idle)) t) (on-the-bus (t .code) (t .step) (wait w) rest (ctxOf t) at) (ap (λ l. firstOut l (ctxOf t)) (sym at)))
+      (λ h. one-transfer _ (sending (t .step) (suc (t .idle)) t) (on-the-bus (t .code) (t .step) (wait w) rest (ctxOf t) at) refl (ap (λ l. firstOut l (ctxOf t)) (sym at)))
       (λ h. gives Answer.Timeout t (le-by-compare 4 8 tt)))
       (λ e. arrives (suc (t .step)) t)
   reacts range rest t (bad e) at = arrives (suc (t .step)) (keptOf t range (bad e))

@@ -4,14 +4,15 @@ use mathlib.Core.Bool.{Bool, true, _&&_}
 use mathlib.Core.List.{List, [], _∷_}
 use Prim.Native.Nat.{ℕ, zero, suc, _≤_}
 use native.Mathlib.Omega.{arith}
+use native.Mathlib.Nat.{le-of-suc-le-suc}
 use borrow.Author.Tests.{leb-true}
 use lib.Dec.{leb}
-use lib.ListN.{length, drop}
-use Rattle.session.specs.Bus.{padTo, transferOf, waitRegister, zeroFrom}
+use lib.ListN.{length, take, drop}
+use Rattle.session.specs.Bus.{padTo, transferOf, zeroFrom, waitRegister}
 use Rattle.session.specs.Instructions.{Ctx, Op, write, read, wait, range, sendOf}
 use Rattle.session.specs.Steps.{slot}
 use Rattle.session.specs.Calls.{Program, opsOf, tuning, programs, programOf}
-use Rattle.session.specs.Claim1.{isLength, OnTheBus}
+use Rattle.session.specs.Claim1.{isLength, OnTheBus, Says}
 use Rattle.session.proofs.Facts.{both}
 use Rattle.session.proofs.Table.{of-table}
 
@@ -52,6 +53,23 @@ seven (suc n) (b ∷ bs) = ap suc (seven n bs)
 
 made : (adr reg n : ℕ) (bs : List ℕ) → length bs ≤ 6 → isLength n ≡ true → OnTheBus (transferOf adr (reg ∷ bs) n)
 made adr reg n bs h r = record { some-byte = omega arith; at-most-seven = omega arith; room = seven 7 (reg ∷ bs); rest-zero = padded 7 (reg ∷ bs); read-length = r }
+
+-- what a transfer is made of can be read off it
+bytes-back : (n : ℕ) (bs : List ℕ) → length bs ≤ n → take (length bs) (padTo n bs) ≡ bs
+bytes-back zero [] h = refl
+bytes-back zero (b ∷ bs) h = absurd (omega (arith, h))
+bytes-back (suc n) [] h = refl
+bytes-back (suc n) (b ∷ bs) h = ap (λ l. b ∷ l) (bytes-back n bs (le-of-suc-le-suc h))
+
+pub transfer-says : (adr n : ℕ) (bs : List ℕ) → length bs ≤ 7 → Says adr bs n (transferOf adr bs n)
+transfer-says adr n bs h = record { to = refl; bytes-written = bytes-back 7 bs h; then-read = refl }
+
+-- it goes to the address that its context names
+pub sent-to : (op : Op) (c : Ctx) → sendOf op c .address ≡ c .address
+sent-to (write reg bytes len over after) c = refl
+sent-to (read reg len slot over after) c = refl
+sent-to (wait w) c = refl
+sent-to range c = refl
 
 pub on-the-bus : (code k : ℕ) (op : Op) (rest : List Op) (c : Ctx) → drop k (opsOf (programOf code)) ≡ op ∷ rest → OnTheBus (sendOf op c)
 on-the-bus code k op rest c e = go op (sized-at k (opsOf (programOf code)) c (sized-law code c) e)

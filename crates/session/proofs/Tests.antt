@@ -21,7 +21,7 @@ use Rattle.session.specs.Instructions.{Ctx, panics, Verdict, onward, lea
 use Rattle.session.specs.Steps.{byPlace, byWord}
 use Rattle.session.specs.Script.{Script}
 use Rattle.session.proofs.Facts.{cond-same}
-use Rattle.session.proofs.Resume.{decideS}
+use Rattle.session.specs.Left.{decideS}
 use Rattle.session.proofs.Once.{placesAt, byPlaces, finalMacro, spareSum, wordTests}
 
 -- with no reply nothing is known

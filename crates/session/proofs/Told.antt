@@ -7,14 +7,14 @@ use native.Mathlib.Omega.{arith}
 use lib.Dec.{eqb}
 use lib.ListN.{drop}
 use borrow.Author.Tests.{not-true}
-use Rattle.session.specs.Bus.{Reply, Condition, detectorReady, statusReady, started, sameOn}
+use Rattle.session.specs.Bus.{Reply, Condition, detectorReady, statusReady, started}
 use Rattle.session.specs.Instructions.{Ctx, Op, write, read, wait, range, sendOf}
 use Rattle.session.specs.Steps.{slot}
 use Rattle.session.specs.Calls.{opsOf, programOf}
 use Rattle.session.specs.History.{Exchange, by}
 use Rattle.session.specs.Claim3.{wrote, asks, awaited, readOf}
 use Rattle.session.proofs.Facts.{both}
-use Rattle.session.proofs.Shape.{asksOne, waitsOn, sameBool, same-bool, and-false, full, edge, isWrite, Known, known-at, asks-is}
+use Rattle.session.proofs.Shape.{asksOne, waitsOn, sameBool, same-bool, and-false, full, edge, isWrite, Known, known-at, asks-is, sameOn}
 
 abbrev pub Told : ℕ → List Op → List Exchange → Type 0
 Told code [] ex = Unit {0}

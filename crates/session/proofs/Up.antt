@@ -8,7 +8,11 @@ use lib.Dec.{eqb}
 use Rattle.session.specs.Bus.{Driver, absent, withAddress, withBudget}
 use Rattle.session.specs.Machine.{notUp}
 use Rattle.session.specs.History.{CallRun}
-use Rattle.session.specs.Claim3.{isDone, upBy, afterDone, afterBegun, isUp, driverOf, BegunUp}
+use Rattle.session.specs.Claim3.{isDone, upBy, afterDone, isUp, driverOf, BegunUp}
+
+-- after an accepted call that is not answered Done
+abbrev pub afterBegun : ℕ → Driver → Driver
+afterBegun code d = cond (eqb code 1) absent d
 
 -- call by call, without the test for up
 abbrev pub fieldsOf : List CallRun → Driver

@@ -74,17 +74,6 @@ idleOn detectorReady bs = eqb (byte 0 bs) 0
 idleOn statusReady bs = eqb (byte 0 bs % 8) 0
 idleOn started bs = not (eqb (byte 0 bs % 2) 0)
 
-abbrev pub sameOn : Condition → Condition → Bool
-sameOn detectorReady detectorReady = true
-sameOn detectorReady statusReady = false
-sameOn detectorReady started = false
-sameOn statusReady detectorReady = false
-sameOn statusReady statusReady = true
-sameOn statusReady started = false
-sameOn started detectorReady = false
-sameOn started statusReady = false
-sameOn started started = true
-
 -- 01's number of each answer
 abbrev pub numberOf : Answer → ℕ
 numberOf (Answer.Done value) = 0

@@ -242,13 +242,6 @@ ceilings = 0 ∷ 85688 ∷ 1 ∷ 1 ∷ 10 ∷ 6 ∷ 4 ∷ 10003 ∷ 20011 ∷ 7 
 unfoldable pub ceilingOf : ℕ → ℕ
 ceilingOf code = getD ceilings code 0
 
--- the least transfers of a call that is answered Done
-unfoldable pub floors : List ℕ
-floors = 0 ∷ 149 ∷ 1 ∷ 1 ∷ 8 ∷ 6 ∷ 4 ∷ 4 ∷ 13 ∷ 7 ∷ 2 ∷ 2 ∷ 5 ∷ 2 ∷ 1 ∷ 6 ∷ []
-
-unfoldable pub floorOf : ℕ → ℕ
-floorOf code = getD floors code 0
-
 -- 01: "Argument range: addresses to 255, low threshold to 65,535, functionality to 3, polarity to 1", and "unused not zero".
 -- By code: the greatest A and B
 unfoldable pub greatest : List (ℕ × ℕ)

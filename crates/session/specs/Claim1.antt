@@ -1,18 +1,19 @@
 -- Demand 1: "One transfer or numbered answer, fixed by document 01, meets every session, record and slice of records;
 -- a refusal makes no transfer and changes neither the session nor any lent byte."
 use mathlib.Core.Path.{_≡_}
-use mathlib.Core.Bool.{Bool, true, _||_, false}
+use mathlib.Core.Bool.{Bool, true, false, _||_, cond}
 use mathlib.Core.List.{List, [], _∷_}
 use mathlib.Core.Option.{Option, some, none}
 use Prim.Native.Nat.{ℕ, _≤_}
 use lib.Dec.{eqb}
 use lib.ListN.{length, drop}
-use Rattle.session.specs.Bus.{Transfer, Answer, byte, transferOf, numberOf, valuesOf, zeroFrom}
+use Rattle.session.specs.Bus.{Transfer, Answer, byte, transferOf, bytesOf, zeroFrom, numberOf, valuesOf, absent}
 use Rattle.session.specs.Instructions.{Ctx, Op, sendOf}
 use Rattle.session.specs.Calls.{opsOf, programOf}
-use Rattle.session.specs.Machine.{Session, Outcome, sent, answered, refused, broken, resting, ctxOf, beginDef, malformed}
-use Rattle.session.specs.Records.{Record, call, stepDef}
+use Rattle.session.specs.Machine.{Session, Outcome, sent, answered, refused, broken, resting, ctxOf, stray, malformed, illFormed, beginDef}
+use Rattle.session.specs.Records.{Record, call, recordsOf, isWhole, stepDef}
 use Rattle.session.specs.Refusals.{refusals, firstOf, atOnce, firstAnswer}
+use Rattle.session.specs.History.{answer, Entry, countsOf, Run, stopped, sessionAfter, Genuine, inOrder}
 
 -- the transfer that a waiting session has out
 abbrev pub firstOut : List Op → Ctx → Transfer
@@ -33,10 +34,20 @@ pub record OnTheBus (t : Transfer) : Type 0 where
   pub rest-zero : zeroFrom (t .count) (t .written) ≡ true
   pub read-length : isLength (t .reads) ≡ true
 
+-- what a transfer is made of can be read off it
+pub record Says (address : ℕ) (bytes : List ℕ) (reads : ℕ) (t : Transfer) : Type 0 where
+  pub to : t .address ≡ address
+  pub bytes-written : bytesOf t ≡ bytes
+  pub then-read : t .reads ≡ reads
+
+-- a bring-up speaks to the address of its record, every other call to the session's
+abbrev pub chipAddress : Session → ℕ
+chipAddress s = cond (eqb (s .code) 1) (s .a) (s .driver .address)
+
 -- what an outcome is: a transfer that the session then has out, an answer 0 to 8 that leaves nothing carried,
 -- or a refusal 9 to 13 or 15 that keeps the session
 pub data Single (s : Session) : Outcome → Type 0 where
-  one-transfer : (t : Transfer) (s′ : Session) → OnTheBus t → t ≡ outstanding s′ → Single s (sent t s′)
+  one-transfer : (t : Transfer) (s′ : Session) → OnTheBus t → t .address ≡ chipAddress s′ → t ≡ outstanding s′ → Single s (sent t s′)
   one-answer : (x : Answer) (n : ℕ) (s′ : Session) → numberOf x ≤ 8 → s′ ≡ resting (s′ .driver) → Single s (answered x n s′)
   one-refusal : (x : Answer) → 9 ≤ numberOf x → numberOf x ≤ 13 → Single s (refused x s)
   ill-formed : Single s (broken s)
@@ -74,3 +85,20 @@ pub record Refused12 (s : Session) (f : ℕ) (bs : List ℕ) : Type 0 where
   pub waiting : s .code ≡ 0 → ⊥
   pub sound : malformed s ≡ false
   pub stray : Stray (outstanding s .reads) f bs
+
+-- a bring-up that ends otherwise than Done leaves no fields, also one that was handed in with some
+abbrev pub LeavesNone : Outcome → Type 0
+LeavesNone (sent t s) = Unit {0}
+LeavesNone (answered x n s) = eqb (numberOf x) 0 ≡ false → s .driver ≡ absent
+LeavesNone (refused x s) = Unit {0}
+LeavesNone (broken s) = Unit {0}
+
+-- a slice of records, from any session. 14 for spare bytes; 15 if the session is ill-formed at the start or where a record meets it;
+-- else every record has what it gets, and the counts are those of the history
+pub data RunEnds (s : Session) (bytes : List ℕ) : Run → Type 0 where
+  spare-bytes : isWhole bytes ≡ false → RunEnds s bytes (stopped Answer.SpareBytes s)
+  ill-formed-given : isWhole bytes ≡ true → illFormed s ≡ true → RunEnds s bytes (stopped Answer.IllFormedSession s)
+  ill-formed-met : isWhole bytes ≡ true → (h : List Entry) (r : Record) (rest : List Record) → inOrder h (r ∷ rest) ≡ recordsOf bytes
+      → Genuine s h → illFormed (sessionAfter s h) ≡ true → RunEnds s bytes (stopped Answer.IllFormedSession s)
+  all-run : isWhole bytes ≡ true → illFormed s ≡ false → (h : List Entry) → inOrder h [] ≡ recordsOf bytes → Genuine s h
+      → RunEnds s bytes (record { answer = Answer.Done 0; session = sessionAfter s h; counts = countsOf h; history = h })

@@ -1,14 +1,17 @@
 -- Demand 2: "For every session, accepted call and list of bus replies [..] equality with [the Rust] in each transfer's bytes and order, in the answer
 -- and in the driver's fields [..]. Where the Rust panics, the same transfers and then answer 8."
 use mathlib.Core.Path.{_≡_}
-use mathlib.Core.Bool.{true}
+use mathlib.Core.Bool.{true, false}
 use mathlib.Core.List.{List, [], _∷_}
-use Prim.Native.Nat.{ℕ}
-use Rattle.session.specs.Bus.{Answer}
-use Rattle.session.specs.Machine.{Session, Outcome, sent, answered, refused, broken, replyDef, beginDef}
+use Prim.Native.Nat.{ℕ, _+_}
+use Rattle.session.specs.Bus.{Answer, Reply, zeroFrom, cleanFrom}
+use Rattle.session.specs.Machine.{Session, Outcome, sent, answered, refused, broken, malformed, waitsNow, replyDef, beginDef}
 use Rattle.session.specs.Refusals.{ranges, inRange}
-use Rattle.session.specs.Script.{Raw, dataOf, Trace, sends, refuses, waits, ends, play}
+use Rattle.session.specs.Script.{Script, done, send, Raw, dataOf, cut, Trace, sends, refuses, waits, ends, play}
 use Rattle.session.specs.RustBringUp.{rust}
+use Rattle.session.specs.Left.{left}
+use Rattle.session.specs.History.{sessionOf}
+use Rattle.session.specs.Claim1.{outstanding}
 
 -- the session is up, or the call is a bring-up
 pub data Ready (s : Session) : ℕ → Type 0 where
@@ -19,13 +22,6 @@ pub record Accepted (s : Session) (code a b : ℕ) : Type 0 where
   pub none-waiting : s .code ≡ 0
   pub arguments : inRange code a b ranges ≡ true
   pub ready : Ready s code
-
--- the session after an outcome
-abbrev pub sessionOf : Outcome → Session
-sessionOf (sent t s) = s
-sessionOf (answered x n s) = s
-sessionOf (refused x s) = s
-sessionOf (broken s) = s
 
 -- what is seen of an outcome, before what comes after
 abbrev pub seen : Outcome → Trace → Trace
@@ -47,3 +43,30 @@ drive rs o = seen o (follows rs (sessionOf o))
 -- A panic of the Rust is its answer 8 with the place
 abbrev pub Demand2 : Session → ℕ → ℕ → ℕ → List Raw → Type 0
 Demand2 s code a b replies = drive replies (beginDef s code a b) ≡ play (rust (s .driver) code a b) replies
+
+-- a waiting session that 15 lets pass, also one that no run leaves, stands in the script of its instructions:
+-- a reply that is not refused takes both one step on
+abbrev pub hears : Script → Reply → Script
+hears (done a d) r = done a d
+hears (send t k) r = k r
+
+-- a transfer more of the same call
+pub record OneMore (s s′ : Session) : Type 0 where
+  pub driver : s′ .driver ≡ s .driver
+  pub code : s′ .code ≡ s .code
+  pub a : s′ .a ≡ s .a
+  pub b : s′ .b ≡ s .b
+  pub transfers : s′ .transfers ≡ s .transfers + 1
+
+abbrev pub StandsAt : Session → Outcome → Script → Type 0
+StandsAt s (sent t s′) x = (x ≡ left s′) × OneMore s s′
+StandsAt s (answered a n s′) x = (x ≡ done a (s′ .driver)) × (n ≡ s .transfers)
+StandsAt s (refused a s′) x = ⊥
+StandsAt s (broken s′) x = ⊥
+
+abbrev pub StepByStep : Session → ℕ → List ℕ → Type 0
+StepByStep s f bs =
+    waitsNow s ≡ true
+    → malformed s ≡ false
+    → zeroFrom (cleanFrom f (outstanding s .reads)) bs ≡ true
+    → StandsAt s (replyDef s f bs) (hears (left s) (cut (outstanding s) f bs))

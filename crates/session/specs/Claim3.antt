@@ -7,12 +7,11 @@ use Prim.Native.Nat.{ℕ, zero, suc, _+_, _%_, _≤_}
 use lib.Dec.{eqb, T}
 use lib.ListN.{length, getD}
 use Rattle.session.specs.Bus.{Driver, Transfer, Answer, byte, bytesOf, Reply, bad, good, failureIn, dataIn, Condition, detectorReady, statusReady, started, numberOf, valuesOf, absent, withAddress, withBudget}
-use Rattle.session.specs.Instructions.{stop, failure}
-use Rattle.session.specs.Machine.{begun}
+use Rattle.session.specs.Machine.{refused, freshSession}
 use Rattle.session.specs.Records.{recordsOf, isWhole}
 use Rattle.session.specs.Script.{Raw, Trace, sends, refuses, waits, ends, heard, play}
-use Rattle.session.specs.RustBringUp.{calls, rust}
-use Rattle.session.specs.History.{answer, callsIn, answersIn, repliesIn, transfersIn, refusedIn, countsOf, Run, inOrder, Exchange, by, Standing, waiting, ended, CallRun, callsOf, isWaiting, waitingIn, transfersOf}
+use Rattle.session.specs.RustBringUp.{rust}
+use Rattle.session.specs.History.{answer, callsIn, answersIn, repliesIn, transfersIn, refusedIn, Run, sessionAfter, Genuine, inOrder, Exchange, by, Standing, waiting, ended, CallRun, callsOf, isWaiting, waitingIn, transfersOf}
 
 abbrev pub bytesAre : List ℕ → List ℕ → Bool
 bytesAre [] [] = true
@@ -134,16 +133,16 @@ If true A B = A
 If false A B = B
 
 -- one exchange, with the later ones of its call (oldest first), the earlier ones and how the call stands
-abbrev pub OnReply : ℕ → Transfer → Reply → List Exchange → List Exchange → Standing → Type 0
-OnReply code t (good bs) later es st = Unit {0}
-OnReply code t (bad e) later es st =
+abbrev pub AfterReply : ℕ → Transfer → Reply → List Exchange → List Exchange → Standing → Type 0
+AfterReply code t (good bs) later es st = Unit {0}
+AfterReply code t (bad e) later es st =
     If (rangeRead code t)
     (Cleared code (suc e) later st)
     ((later ≡ []) × EndedWith (reported code (rangeFailure code es) (suc e)) st)
 
 abbrev pub Failures : ℕ → List Exchange → List Exchange → Standing → Type 0
 Failures code later [] st = Unit {0}
-Failures code later (e ∷ es) st = OnReply code (e .sent) (e .reply) later es st × Failures code (e ∷ later) es st
+Failures code later (e ∷ es) st = AfterReply code (e .sent) (e .reply) later es st × Failures code (e ∷ later) es st
 
 abbrev pub FailureRule : CallRun → Type 0
 FailureRule c = Failures (c .code) [] (c .exchanges) (c .standing)
@@ -204,12 +203,9 @@ valuesIn (ended x n) = valuesOf x
 abbrev pub upBy : ℕ → List Exchange → Driver
 upBy a es = record { up = true; address = a; stop = firstByte 0x91 0 es; budget = budgetOfFirst es }
 
--- the fields after a call that was answered Done, and after any other accepted call
+-- the fields after a call that was answered Done
 abbrev pub afterDone : ℕ → ℕ → List Exchange → Driver → Driver
 afterDone code a es d = cond (eqb code 1) (upBy a es) (cond (eqb code 3) (withAddress d a) (cond (eqb code 9) (withBudget d a) d))
-
-abbrev pub afterBegun : ℕ → Driver → Driver
-afterBegun code d = cond (eqb code 1) absent d
 
 -- 01: "a session is up from a bring-up answered Done until the next bring-up is begun"
 abbrev pub isUp : List CallRun → Bool
@@ -253,14 +249,10 @@ sumOf f (c ∷ cs) = f c + sumOf f cs
 abbrev pub repliesOf : CallRun → ℕ
 repliesOf c = length (c .exchanges)
 
--- the code and the transfers of the call that waits, 0 where none does; only the last call can wait
-abbrev pub waitingCode : List CallRun → ℕ
-waitingCode [] = 0
-waitingCode (c ∷ cs) = cond (eqb (isWaiting (c .standing)) 1) (c .code) 0
-
-abbrev pub waitingTransfers : List CallRun → ℕ
-waitingTransfers [] = 0
-waitingTransfers (c ∷ cs) = cond (eqb (isWaiting (c .standing)) 1) (transfersOf c) 0
+-- a number of the call that waits, 0 where none does; only the last call can wait
+abbrev pub ofWaiting : (CallRun → ℕ) → List CallRun → ℕ
+ofWaiting f [] = 0
+ofWaiting f (c ∷ cs) = cond (eqb (isWaiting (c .standing)) 1) (f c) 0
 
 pub record Demand3 (bytes : List ℕ) (run : Run) : Type 0 where
   -- "at its end: transfers = accepted replies + waiting calls"
@@ -274,8 +266,18 @@ pub record Demand3 (bytes : List ℕ) (run : Run) : Type 0 where
   -- the run goes through all records and never meets 15; spare bytes are 14
   pub answer : run .answer ≡ cond (isWhole bytes) (Answer.Done 0) Answer.SpareBytes
   pub records : inOrder (run .history) [] ≡ cond (isWhole bytes) (recordsOf bytes) []
+  -- each record has what the definitions of demands 1 and 2 give it, and the session is the one that the last record left
+  pub genuine : Genuine freshSession (run .history)
+  pub session : run .session ≡ sessionAfter freshSession (run .history)
   -- the five counts are counts over the history, and "records = calls + replies + refused"
-  pub tallied : run .counts ≡ countsOf (run .history)
+  pub tallied : run .counts
+      ≡ record {
+        calls = callsIn (run .history);
+        answers = answersIn (run .history);
+        replies = repliesIn (run .history);
+        transfers = transfersIn (run .history);
+        refused = refusedIn (run .history);
+      }
   pub counted : length (run .history) ≡ callsIn (run .history) + repliesIn (run .history) + refusedIn (run .history)
   -- every accepted record has its place in a call, and at most one call waits
   pub begun : callsIn (run .history) ≡ length (callsOf (run .history))
@@ -285,5 +287,17 @@ pub record Demand3 (bytes : List ℕ) (run : Run) : Type 0 where
   pub one : waitingIn (callsOf (run .history)) ≤ 1
   pub begun-up : BegunUp (callsOf (run .history))
   -- what the session says of the call that waits
-  pub code : run .session .code ≡ waitingCode (callsOf (run .history))
-  pub transfers : run .session .transfers ≡ waitingTransfers (callsOf (run .history))
+  pub code : run .session .code ≡ ofWaiting (λ c. c .code) (callsOf (run .history))
+  pub a : run .session .a ≡ ofWaiting (λ c. c .a) (callsOf (run .history))
+  pub b : run .session .b ≡ ofWaiting (λ c. c .b) (callsOf (run .history))
+  pub transfers : run .session .transfers ≡ ofWaiting transfersOf (callsOf (run .history))
+
+-- in other words: the last n exchanges of a call are there, and each is an idle read of the wait
+abbrev pub LastIdle : ℕ → Condition → ℕ → List Exchange → Type 0
+LastIdle zero x code es = Unit {0}
+LastIdle (suc n) x code [] = ⊥
+LastIdle (suc n) x code (e ∷ es) = T (readOf x code (e .sent) es && idleReply x (e .reply)) × LastIdle n x code es
+
+-- a bring-up that is answered Done has made 149 to 85,688 transfers
+abbrev pub BringUpCount : CallRun → Type 0
+BringUpCount c = c .code ≡ 1 → isDone (c .standing) ≡ true → (149 ≤ transfersOf c) × (transfersOf c ≤ 85688)

@@ -1,13 +1,13 @@
 -- The run over a list of records, its history and counts, and the calls of a history with their exchanges.
 -- 01, "Records and the list run". Lists of the history stand newest first.
-use mathlib.Core.Bool.{cond}
+use mathlib.Core.Bool.{cond, false}
 use mathlib.Core.List.{List, [], _∷_}
 use Prim.Native.Nat.{ℕ, _+_}
 use lib.ListN.{length}
+use mathlib.Core.Path.{_≡_}
 use Rattle.session.specs.Bus.{Transfer, Answer, Reply}
 use Rattle.session.specs.Machine.{Session, Outcome, sent, answered, refused, broken, toReply, illFormed}
 use Rattle.session.specs.Records.{Record, call, reply, other, recordsOf, isWhole, stepDef}
-use Rattle.session.specs.RustBringUp.{calls}
 
 -- 01: "A list's history is its records in order, each with what the definitions of demands 1 and 2 give it:
 -- one transfer, its call's answer, or a refusal." An answer stands with the transfers that its call made
@@ -113,6 +113,30 @@ runRecords s rs = cond (illFormed s) (stopped Answer.IllFormedSession s) (runFro
 unfoldable pub runDef : Session → List ℕ → Run
 runDef s bytes = cond (isWhole bytes) (runRecords s (recordsOf bytes)) (stopped Answer.SpareBytes s)
 
+-- what an outcome shows, and the session that it leaves
+abbrev pub gotOf : Outcome → Got
+gotOf (sent t s) = transfer t
+gotOf (answered x n s) = answer x n
+gotOf (refused x s) = refusal x
+gotOf (broken s) = refusal Answer.IllFormedSession
+
+abbrev pub sessionOf : Outcome → Session
+sessionOf (sent t s) = s
+sessionOf (answered x n s) = s
+sessionOf (refused x s) = s
+sessionOf (broken s) = s
+
+-- the session that the records of a history leave, from a session given
+abbrev pub sessionAfter : Session → List Entry → Session
+sessionAfter given [] = given
+sessionAfter given (e ∷ h) = sessionOf (stepDef (sessionAfter given h) (e .what))
+
+-- each record met a session that is not ill-formed, and has what that session gives it
+abbrev pub Genuine : Session → List Entry → Type 0
+Genuine given [] = Unit {0}
+Genuine given (e ∷ h) =
+    (illFormed (sessionAfter given h) ≡ false) × (e .got ≡ gotOf (stepDef (sessionAfter given h) (e .what))) × Genuine given h
+
 -- the records of a history, oldest first, before others
 abbrev pub inOrder : List Entry → List Record → List Record
 inOrder [] rs = rs
@@ -147,18 +171,18 @@ abbrev pub replied : Reply → Standing → List CallRun → List CallRun
 replied r st [] = []
 replied r st (c ∷ cs) = exchanged c (c .standing) r st ∷ cs
 
-abbrev pub place : Record → Got → List CallRun → List CallRun
-place (call code a b) (transfer t) cs = record { code = code; a = a; b = b; exchanges = []; standing = waiting t } ∷ cs
-place (call code a b) (answer x n) cs = record { code = code; a = a; b = b; exchanges = []; standing = ended x n } ∷ cs
-place (call code a b) (refusal x) cs = cs
-place (reply f bs) (transfer t) cs = replied (toReply f bs) (waiting t) cs
-place (reply f bs) (answer x n) cs = replied (toReply f bs) (ended x n) cs
-place (reply f bs) (refusal x) cs = cs
-place other g cs = cs
+abbrev pub joined : Record → Got → List CallRun → List CallRun
+joined (call code a b) (transfer t) cs = record { code = code; a = a; b = b; exchanges = []; standing = waiting t } ∷ cs
+joined (call code a b) (answer x n) cs = record { code = code; a = a; b = b; exchanges = []; standing = ended x n } ∷ cs
+joined (call code a b) (refusal x) cs = cs
+joined (reply f bs) (transfer t) cs = replied (toReply f bs) (waiting t) cs
+joined (reply f bs) (answer x n) cs = replied (toReply f bs) (ended x n) cs
+joined (reply f bs) (refusal x) cs = cs
+joined other g cs = cs
 
 abbrev pub callsOf : List Entry → List CallRun
 callsOf [] = []
-callsOf (e ∷ h) = place (e .what) (e .got) (callsOf h)
+callsOf (e ∷ h) = joined (e .what) (e .got) (callsOf h)
 
 -- 01: "waiting calls are the accepted ones without an answer"
 abbrev pub isWaiting : Standing → ℕ

@@ -1,9 +1,10 @@
 -- Records of eight bytes, and what one record gives a session. 01, "Records and the list run".
 use mathlib.Core.Bool.{Bool, cond}
 use mathlib.Core.List.{List, [], _∷_}
-use Prim.Native.Nat.{ℕ, _+_, _*_, _%_}
+use Prim.Native.Nat.{ℕ, _+_, _*_, _/_, _%_}
 use lib.Dec.{eqb}
 use lib.ListN.{length}
+use Rattle.session.specs.Bus.{padTo}
 use Rattle.session.specs.Machine.{Session, Outcome, replyDef, beginDef, otherDef}
 
 -- a call (code, A, B), a reply (failure code or 0, six data bytes), or a record of no kind
@@ -17,6 +18,13 @@ abbrev pub recordOf : ℕ → ℕ → ℕ → ℕ → ℕ → ℕ → ℕ → �
 recordOf kind x b₂ b₃ b₄ b₅ b₆ b₇ =
     cond (eqb kind 0x01) (call x (b₂ * 16777216 + b₃ * 65536 + b₄ * 256 + b₅) (b₆ * 256 + b₇))
     (cond (eqb kind 0x02) (reply x (b₂ ∷ b₃ ∷ b₄ ∷ b₅ ∷ b₆ ∷ b₇ ∷ [])) other)
+
+-- the eight bytes of a call and of a reply
+abbrev pub callBytes : ℕ → ℕ → ℕ → List ℕ
+callBytes code a b = 0x01 ∷ code ∷ a / 16777216 % 256 ∷ a / 65536 % 256 ∷ a / 256 % 256 ∷ a % 256 ∷ b / 256 % 256 ∷ b % 256 ∷ []
+
+abbrev pub replyBytes : ℕ → List ℕ → List ℕ
+replyBytes f bs = 0x02 ∷ f ∷ padTo 6 bs
 
 -- the whole records of a list
 unfoldable pub recordsOf : List ℕ → List Record
