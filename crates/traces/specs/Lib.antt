@@ -1,0 +1,15 @@
+pub mod Trace
+pub mod BringUp
+pub mod InUse
+pub mod Measuring
+pub mod Settings
+pub mod BringUpFailures
+pub mod RangeFailures
+pub mod CallFailures
+pub mod BringUpBudgets
+pub mod BringUpPanics
+pub mod Panics
+pub mod AtOnce
+pub mod Random
+pub mod RandomBringUp
+pub mod Agreement
