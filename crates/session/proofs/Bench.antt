@@ -13,9 +13,8 @@ use Rattle.session.specs.Bus.{Driver}
 use Rattle.session.specs.Calls.{tuning, programs, programOf, defaultAddress, ceilings, ceilingOf, greatest, argumentsOk}
 use Rattle.session.specs.Machine.{arrive, stray, malformed, replyDef, beginDef}
 use Rattle.session.specs.Records.{call, reply, other, recordOf, callBytes, replyBytes, recordsOf, stepDef}
-use Rattle.session.specs.RustBringUp.{new, number, calls, rust}
+use Rattle.session.specs.RustBringUp.{new, calls, rust}
 use Rattle.session.specs.History.{runFrom, runRecords, runDef}
-use Rattle.session.specs.Claim1.{spare-bytes}
 use Rattle.session.specs.Bench.{AnswerValues, CarriedPlaces, HeldValues, SessionValues}
 
 answer-values : AnswerValues

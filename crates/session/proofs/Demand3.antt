@@ -8,10 +8,8 @@ use lib.Dec.{eqb}
 use lib.ListN.{length}
 use Rattle.session.specs.Bus.{Driver, Answer, Reply}
 use Rattle.session.specs.Instructions.{Op, sendOf}
-use Rattle.session.specs.Machine.{Session, Outcome, sent, answered, refused, broken, resting, freshSession, ctxOf, toReply, illFormed, begun}
+use Rattle.session.specs.Machine.{Session, Outcome, sent, answered, refused, broken, resting, freshSession, ctxOf, toReply, illFormed}
 use Rattle.session.specs.Records.{Record, call, reply, other, recordsOf, isWhole, stepDef}
-use Rattle.session.specs.Script.{heard}
-use Rattle.session.specs.RustBringUp.{calls}
 use Rattle.session.specs.History.{Got, transfer, answer, refusal, Entry, isTransfer, isAnswer, isRefused, isAcceptedCall, callsIn, answersIn, repliesIn, transfersIn, refusedIn, countsOf, Run, stopped, taking, runFrom, runRecords, runDef, gotOf, sessionOf, sessionAfter, Genuine, inOrder, Exchange, Standing, waiting, ended, CallRun, replied, joined, callsOf, isWaiting, waitingIn, transfersOf}
 use Rattle.session.specs.Claim3.{ofWaiting, Demand3}
 use Rattle.session.proofs.Facts.{cond-case}

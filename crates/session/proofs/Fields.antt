@@ -10,7 +10,7 @@ use Rattle.budget.specs.Budget.{measurementTimingBudget}
 use Rattle.timing.specs.Timeouts.{timeIn}
 use Rattle.timing.specs.Registers.{registersOf}
 use Rattle.session.specs.Bus.{Driver, byte}
-use Rattle.session.specs.Instructions.{stop, timingSlot, budgetIn}
+use Rattle.session.specs.Instructions.{timingSlot, budgetIn}
 use Rattle.session.specs.Steps.{slot}
 use Rattle.session.specs.Calls.{tuning, broughtUp, programs, programOf}
 use Rattle.session.specs.History.{Exchange}

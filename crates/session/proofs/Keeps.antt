@@ -12,7 +12,6 @@ use Rattle.session.specs.Instructions.{Op, sendOf}
 use Rattle.session.specs.Calls.{opsOf, programOf, argumentsOk}
 use Rattle.session.specs.Machine.{Session, Outcome, sent, answered, refused, broken, resting, ctxOf, decide, react, toReply, stray, replyDef, begun, notUp, beginDef, otherDef}
 use Rattle.session.specs.Records.{Record, call, reply, other, stepDef}
-use Rattle.session.specs.Script.{heard}
 use Rattle.session.specs.History.{Got, transfer, answer, refusal, isTransfer, isRefused, isAcceptedCall, isAcceptedReply, Exchange, by, waiting, ended, CallRun, joined, waitingIn, transfersOf}
 use Rattle.session.specs.Claim3.{isUp, BegunUp, All, Lawful, sumOf, repliesOf}
 use Rattle.session.proofs.Facts.{cond-case, untrue}

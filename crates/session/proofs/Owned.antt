@@ -1,6 +1,6 @@
 -- The budget that a bring-up found is kept with the first read of 0x70, and is the number of the bytes at slots 8 to 15.
 use mathlib.Core.Path.{_≡_, refl, sym, ap, _∙_}
-use mathlib.Core.Bool.{Bool, true, false, not, _||_, _&&_, cond}
+use mathlib.Core.Bool.{Bool, true, false, _||_, _&&_, cond}
 use mathlib.Core.List.{List, [], _∷_}
 use Prim.Native.Nat.{ℕ, zero, suc, _+_, _≤_, _<_}
 use native.Mathlib.Omega.{arith}
@@ -13,7 +13,6 @@ use Rattle.timing.specs.Timeouts.{timeIn}
 use Rattle.timing.specs.Registers.{registersOf}
 use Rattle.session.specs.Bus.{byte, Reply, bad, good, Condition}
 use Rattle.session.specs.Instructions.{Ctx, Op, write, read, wait, range, timingSlot, bytesFrom, put, budgetIn, sendOf, keptBytes, keptBudget}
-use Rattle.session.specs.Steps.{slot}
 use Rattle.session.specs.Calls.{opsOf, programOf}
 use Rattle.session.specs.History.{Exchange, by}
 use Rattle.session.specs.Claim3.{wasRead}

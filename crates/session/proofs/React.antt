@@ -9,7 +9,7 @@ use lib.ListN.{length, drop}
 use lib.Seq.{drop-drop}
 use borrow.Author.Tests.{ltb-true, ltb-false, eqb-true, not-false}
 use Rattle.session.specs.Bus.{Driver, Answer, Reply, bad, good, failureIn, Condition, waitLimit, idleOn}
-use Rattle.session.specs.Instructions.{Ctx, Verdict, Op, write, read, wait, range, failure, sendOf, keptBytes, keptFailure, readWins, reportOf}
+use Rattle.session.specs.Instructions.{Ctx, Verdict, Op, write, read, wait, range, sendOf, keptBytes, keptFailure, readWins, reportOf}
 use Rattle.session.specs.Steps.{slot}
 use Rattle.session.specs.Calls.{opsOf, programOf}
 use Rattle.session.specs.Machine.{Session, sent, ctxOf, keptOf, sending, giving, arrive, decide, react}

@@ -14,7 +14,7 @@ use Rattle.session.specs.Steps.{slot}
 use Rattle.session.specs.Calls.{Program, opsOf, tuning, nothing, programs, programOf, ceilings, ceilingOf, argumentsOk}
 use Rattle.session.specs.Machine.{Session, Outcome, sent, answered, refused, broken, ctxOf, decide, react, toReply, stray, onOps, idleWrong, upWrong, malformed, waitsNow, illFormed, replyDef, begun, notUp, beginDef, otherDef}
 use Rattle.session.specs.Records.{Record, call, reply, other, stepDef}
-use Rattle.session.specs.Refusals.{ranges, inRange, limitRows, lengthRows, most, busy, idleBad, forRecord, refusals, firstOf}
+use Rattle.session.specs.Refusals.{ranges, inRange, limitRows, lengthRows, ceilingRows, busy, idleBad, forRecord, refusals, firstOf}
 use Rattle.session.specs.Claim1.{Single, one-refusal, refusalNumber}
 use Rattle.session.proofs.Good.{limit-positive}
 use Rattle.session.proofs.Cut.{stray-is}
@@ -113,8 +113,8 @@ up-is code up = go (eqb code 1) up
     go false true = refl
     go false false = refl
 
-most-is : (code : ℕ) → ceilingOf code ≡ getD most code 0
-unfolding ceilingOf ceilings most
+most-is : (code : ℕ) → ceilingOf code ≡ getD ceilingRows code 0
+unfolding ceilingOf ceilings ceilingRows
 most-is code = refl
 
 -- the seven conditions together
@@ -124,7 +124,7 @@ bad7 s =
     || ((eqb (s .code) 1 && s .driver .up) || (not (eqb (s .code) 1) && not (s .driver .up))))
     || (leb (length (getD limitRows (s .code) [])) (s .step) || idleBad (getD (getD limitRows (s .code) []) (s .step) 0) (s .idle)))
     || eqb (s .transfers) 0)
-    || ltb (getD most (s .code) 0) (s .transfers)
+    || ltb (getD ceilingRows (s .code) 0) (s .transfers)
 
 or-same : {a b c d : Bool} → a ≡ b → c ≡ d → a || c ≡ b || d
 or-same {a} {b} {c} {d} p q = ap (λ t. t || c) p ∙ ap (λ t. b || t) q
@@ -157,7 +157,7 @@ seven true false false false false false false false xs = refl
 table-is : (s : Session) (r : Record) → firstOf (refusals s r) ≡ cond (illFormed s) 15 (firstOf (forRecord s r))
 table-is s r =
     seven (busy s) (not (inRange (s .code) (s .a) (s .b) ranges)) (eqb (s .code) 1 && s .driver .up) (not (eqb (s .code) 1) && not (s .driver .up))
-    (leb (length (getD limitRows (s .code) [])) (s .step)) (idleBad (getD (getD limitRows (s .code) []) (s .step) 0) (s .idle)) (eqb (s .transfers) 0) (ltb (getD most (s .code) 0) (s .transfers)) (forRecord s r)
+    (leb (length (getD limitRows (s .code) [])) (s .step)) (idleBad (getD (getD limitRows (s .code) []) (s .step) 0) (s .idle)) (eqb (s .transfers) 0) (ltb (getD ceilingRows (s .code) 0) (s .transfers)) (forRecord s r)
     ∙ ap (λ t. cond (busy s && t) 15 (firstOf (forRecord s r))) (sym (malformed-is s))
 
 accepted-0 : (o : Outcome) → Accepts o → refusalNumber o ≡ 0

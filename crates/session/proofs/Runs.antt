@@ -6,7 +6,7 @@ use Prim.Native.Nat.{ℕ}
 use Rattle.session.specs.Bus.{Answer}
 use Rattle.session.specs.Machine.{Session, Outcome, sent, answered, refused, broken, illFormed}
 use Rattle.session.specs.Records.{Record, recordsOf, isWhole, stepDef}
-use Rattle.session.specs.History.{answer, Entry, countsOf, Run, stopped, taking, runFrom, runRecords, runDef, gotOf, sessionOf, sessionAfter, Genuine, inOrder}
+use Rattle.session.specs.History.{Entry, countsOf, Run, stopped, taking, runFrom, runRecords, runDef, gotOf, sessionOf, sessionAfter, Genuine, inOrder}
 use Rattle.session.specs.Claim1.{RunEnds, spare-bytes, ill-formed-given, ill-formed-met, all-run}
 use Rattle.session.proofs.Facts.{cond-case}
 use Rattle.session.proofs.Ill.{IllOf, ill-is}

@@ -8,11 +8,9 @@ use lib.ListN.{replicate}
 use lib.Seq.{sets}
 use Rattle.session.specs.Bus.{Answer, byte, transferOf, numberOf, valuesOf}
 use Rattle.session.specs.Instructions.{timingSlot}
-use Rattle.session.specs.Machine.{Session, Outcome, sent, answered, refused, broken, zeros, resting, freshSession, replyDef}
+use Rattle.session.specs.Machine.{Session, Outcome, sent, answered, broken, zeros, resting, freshSession, replyDef}
 use Rattle.session.specs.Records.{call, reply, recordsOf}
-use Rattle.session.specs.RustBringUp.{number}
 use Rattle.session.specs.History.{transfer, answer, runDef}
-use Rattle.session.specs.Claim1.{spare-bytes}
 
 -- 01: "Input 01 01 00 00 00 29 00 00, 02 00 00 00 00 00 00 00 prints T 29 C0 1, A 2 0 1"
 abbrev pub input : List ℕ

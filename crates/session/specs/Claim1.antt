@@ -10,10 +10,10 @@ use lib.ListN.{length, drop}
 use Rattle.session.specs.Bus.{Transfer, Answer, byte, transferOf, bytesOf, zeroFrom, numberOf, valuesOf, absent}
 use Rattle.session.specs.Instructions.{Ctx, Op, sendOf}
 use Rattle.session.specs.Calls.{opsOf, programOf}
-use Rattle.session.specs.Machine.{Session, Outcome, sent, answered, refused, broken, resting, ctxOf, stray, malformed, illFormed, beginDef}
+use Rattle.session.specs.Machine.{Session, Outcome, sent, answered, refused, broken, resting, ctxOf, malformed, illFormed, beginDef}
 use Rattle.session.specs.Records.{Record, call, recordsOf, isWhole, stepDef}
 use Rattle.session.specs.Refusals.{refusals, firstOf, atOnce, firstAnswer}
-use Rattle.session.specs.History.{answer, Entry, countsOf, Run, stopped, sessionAfter, Genuine, inOrder}
+use Rattle.session.specs.History.{Entry, countsOf, Run, stopped, sessionAfter, Genuine, inOrder}
 
 -- the transfer that a waiting session has out
 abbrev pub firstOut : List Op → Ctx → Transfer

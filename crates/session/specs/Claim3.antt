@@ -7,11 +7,11 @@ use Prim.Native.Nat.{ℕ, zero, suc, _+_, _%_, _≤_}
 use lib.Dec.{eqb, T}
 use lib.ListN.{length, getD}
 use Rattle.session.specs.Bus.{Driver, Transfer, Answer, byte, bytesOf, Reply, bad, good, failureIn, dataIn, Condition, detectorReady, statusReady, started, numberOf, valuesOf, absent, withAddress, withBudget}
-use Rattle.session.specs.Machine.{refused, freshSession}
+use Rattle.session.specs.Machine.{freshSession}
 use Rattle.session.specs.Records.{recordsOf, isWhole}
-use Rattle.session.specs.Script.{Raw, Trace, sends, refuses, waits, ends, heard, play}
+use Rattle.session.specs.Script.{Raw, Trace, sends, refuses, waits, ends, play}
 use Rattle.session.specs.RustBringUp.{rust}
-use Rattle.session.specs.History.{answer, callsIn, answersIn, repliesIn, transfersIn, refusedIn, Run, sessionAfter, Genuine, inOrder, Exchange, by, Standing, waiting, ended, CallRun, callsOf, isWaiting, waitingIn, transfersOf}
+use Rattle.session.specs.History.{callsIn, answersIn, repliesIn, transfersIn, refusedIn, Run, sessionAfter, Genuine, inOrder, Exchange, by, Standing, waiting, ended, CallRun, callsOf, isWaiting, waitingIn, transfersOf}
 
 abbrev pub bytesAre : List ℕ → List ℕ → Bool
 bytesAre [] [] = true
@@ -27,7 +27,7 @@ wrote bs t = bytesAre (bytesOf t) bs
 abbrev pub asks : ℕ → Transfer → Bool
 asks reg t = wrote (reg ∷ []) t && eqb (t .reads) 1
 
--- CEILING. "No call has made more transfers than its ceiling in 01 (bring-up 85,688)."
+-- CEILING. "No call has made more transfers than its ceiling in 01 (bring-up 85,688)." The claim's numbers and tests are its own: written down again, not the machine's.
 unfoldable pub ceilingIn : ℕ → ℕ
 ceilingIn code = getD (0 ∷ 85688 ∷ 1 ∷ 1 ∷ 10 ∷ 6 ∷ 4 ∷ 10003 ∷ 20011 ∷ 7 ∷ 2 ∷ 2 ∷ 5 ∷ 2 ∷ 1 ∷ 6 ∷ []) code 0
 

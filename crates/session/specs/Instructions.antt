@@ -1,7 +1,7 @@
 -- What an instruction is: a transfer, what is kept of its reply, and what a good reply decides.
 -- The machine and the proofs go through a call by these rules alone.
 use mathlib.Core.Bool.{Bool, true, false, cond}
-use mathlib.Core.List.{List, [], _∷_, map}
+use mathlib.Core.List.{List, [], _∷_}
 use Prim.Native.Nat.{ℕ, zero, suc, _+_}
 use lib.Dec.{eqb}
 use lib.Seq.{sets}
@@ -125,11 +125,11 @@ keptFailure (wait x) r failed = failed
 keptFailure range (bad e) failed = suc e
 keptFailure range (good bs) failed = 0
 
--- the budget, once the last of the first six budget reads has come
+-- the budget, once the last of the first six budget replies is kept
 abbrev pub keptBudget : Op → Reply → List ℕ → ℕ → ℕ
 keptBudget (write reg bytes n over after) r carried own = own
 keptBudget (read reg n slot over after) (bad e) carried own = own
-keptBudget (read reg n slot over after) (good bs) carried own = cond (eqb slot 15) (budgetIn timingSlot (put carried slot (bytesFrom 0 n bs))) own
+keptBudget (read reg n slot over after) (good bs) carried own = cond (eqb slot (timingSlot + 7)) (budgetIn timingSlot (put carried slot (bytesFrom 0 n bs))) own
 keptBudget (wait x) r carried own = own
 keptBudget range r carried own = own
 

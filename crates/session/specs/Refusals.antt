@@ -1,4 +1,5 @@
--- 01's table of refusals, in plain numbers: conditions with their answers, and the first that holds decides. Nothing here is shared with the machine.
+-- 01's table of refusals, in plain numbers: conditions with their answers, and the first that holds decides.
+-- Its ranges, limits, lengths and ceilings are written down again here: with the machine it shares only what a session, a record and a stray byte are.
 use mathlib.Core.Bool.{Bool, true, false, not, _||_, _&&_, cond}
 use mathlib.Core.Option.{Option, some, none}
 use mathlib.Core.List.{List, [], _∷_, _++_}
@@ -10,7 +11,7 @@ use Rattle.session.specs.Bus.{zeroFrom, cleanFrom}
 use Rattle.session.specs.Machine.{Session}
 use Rattle.session.specs.Records.{Record, call, reply, other}
 
--- code, greatest A, greatest B
+-- 01: "code 1..15, argument range, unused not zero": code, greatest A, greatest B
 abbrev pub ranges : List (ℕ × ℕ × ℕ)
 ranges =
     (1, 255, 0)
@@ -76,9 +77,9 @@ lengthRows =
     ∷ (1 ∷ 2 ∷ 2 ∷ 1 ∷ 1 ∷ 1 ∷ [])
     ∷ []
 
--- by code: the most transfers
-unfoldable pub most : List ℕ
-most = 0 ∷ 85688 ∷ 1 ∷ 1 ∷ 10 ∷ 6 ∷ 4 ∷ 10003 ∷ 20011 ∷ 7 ∷ 2 ∷ 2 ∷ 5 ∷ 2 ∷ 1 ∷ 6 ∷ []
+-- by code: the ceilingRows transfers
+unfoldable pub ceilingRows : List ℕ
+ceilingRows = 0 ∷ 85688 ∷ 1 ∷ 1 ∷ 10 ∷ 6 ∷ 4 ∷ 10003 ∷ 20011 ∷ 7 ∷ 2 ∷ 2 ∷ 5 ∷ 2 ∷ 1 ∷ 6 ∷ []
 
 -- a call waits
 abbrev pub busy : Session → Bool
@@ -109,7 +110,7 @@ refusals s r =
     ∷ (busy s && leb (length (getD limitRows (s .code) [])) (s .step), 15)
     ∷ (busy s && idleBad (getD (getD limitRows (s .code) []) (s .step) 0) (s .idle), 15)
     ∷ (busy s && eqb (s .transfers) 0, 15)
-    ∷ (busy s && ltb (getD most (s .code) 0) (s .transfers), 15)
+    ∷ (busy s && ltb (getD ceilingRows (s .code) 0) (s .transfers), 15)
     ∷ forRecord s r
 
 -- 0 where no condition holds: the record is accepted

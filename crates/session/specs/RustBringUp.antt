@@ -6,7 +6,6 @@ use lib.Dec.{eqb}
 use lib.ListN.{getD}
 use Rattle.spad.specs.Loop.{enable-spads}
 use Rattle.session.specs.Bus.{Driver, Answer, byte, absent}
-use Rattle.session.specs.Instructions.{stop}
 use Rattle.session.specs.Script.{Script, done}
 use Rattle.session.specs.Registers.{SYSRANGE-START, VHV-CONFIG-PAD-SCL-SDA-EXTSUP-HV, MSRC-CONFIG-CONTROL, SYSTEM-SEQUENCE-CONFIG, GLOBAL-CONFIG-SPAD-ENABLES-REF-0, DYNAMIC-SPAD-REF-EN-START-OFFSET, DYNAMIC-SPAD-NUM-REQUESTED-REF-SPAD, GLOBAL-CONFIG-REF-EN-START-SELECT, RESULT-INTERRUPT-STATUS}
 use Rattle.session.specs.RustFn.{Chip, Fn, onResult, _>>=_, _>>_, Ok, Err, if, set-self-stop-variable, set-self-budget, read-register, read-6bytes, write-byte, write-6bytes, while-idle}

@@ -5,7 +5,6 @@ use mathlib.Core.List.{List, [], _∷_}
 use Prim.Native.Nat.{ℕ, zero, suc}
 use lib.ListN.{take}
 use Rattle.session.specs.Bus.{Driver, Transfer, Answer, Reply, bad, good, zeroFrom, cleanFrom}
-use Rattle.session.specs.Instructions.{failure}
 
 pub data Script : Type 0 where
   done : Answer → Driver → Script

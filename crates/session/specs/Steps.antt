@@ -66,7 +66,7 @@ rateIn RateWord.Refused = 0
 abbrev pub dssOfCall9 : DssTerm
 dssOfCall9 = DssTerm.Once
 
--- the budget that is set: a bring-up's own, read from slot 16 on, or the argument of call 9, from slot 8 on
+-- the budget that is set: the argument of call 9, which reads from slot 8 on, or a bring-up's own: its second reads, from slot 16 on, are for that
 abbrev pub budgetToSet : ℕ → Ctx → ℕ
 budgetToSet k c = cond (eqb k secondSlot) (c .own) (c .a)
 
@@ -77,6 +77,7 @@ wordToSet k c = finalRangeWord (timingIn k (c .carried)) (record { 0 = budgetToS
 abbrev pub noTime : ℕ → Verdict
 noTime k = cond (eqb k secondSlot) leap (stop declines)
 
+-- the write that is left out
 abbrev pub overLast : ℕ → ℕ
 overLast k = cond (eqb k secondSlot) 1 0
 

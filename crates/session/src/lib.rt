@@ -10,8 +10,8 @@ pub struct Driver {
 // A driver and the call that waits for a reply of the bus, if there is one.
 // `code` 0: no call waits. `a` and `b` are its arguments, `step` its place in the list of its
 // instructions, `idle` the idle reads of the wait it stands at, `transfers` those made so far.
-// `failed` is the failure code of its range read, `own` the budget that a bring-up has found,
-// `carried` the reply bytes still needed, raw.
+// `failed` is the failure code of its range read, `own` the budget that its first six budget reads
+// gave, `carried` the reply bytes that it has kept, raw.
 pub struct Session {
     pub driver: Driver,
     pub code: u8,
