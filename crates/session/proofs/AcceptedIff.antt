@@ -7,6 +7,7 @@ use Prim.Native.Nat.{ℕ, _≤_}
 use native.Mathlib.Omega.{arith}
 use lib.Dec.{eqb, leb}
 use borrow.Author.Tests.{leb-true, eqb-true, not-false, lt-leb, leb-false, ne-eqb}
+use Rattle.session.specs.Records.{stepDef, call}
 use Rattle.session.specs.Calls.{programOf, greatest, argumentsOk}
 use Rattle.session.specs.Machine.{Session, ctxOf, waitsNow, illFormed, begun, notUp, beginDef}
 use Rattle.session.specs.Refusals.{ranges, inRange}
@@ -70,11 +71,11 @@ ok-ready s code h = go (eqb code 1) refl h
     go false e q = while-up (not-false (s .driver .up) q)
 
 -- of any session, also a waiting or an ill-formed one
-pub accepted-iff : (s : Session) (code a b : ℕ) → Accepts (beginDef s code a b) ↔ Accepted s code a b
-unfolding beginDef
+pub accepted-iff : (s : Session) (code a b : ℕ) → Accepts (stepDef s (call code a b)) ↔ Accepted s code a b
+unfolding beginDef stepDef
 accepted-iff s code a b = (there, back)
   where
-    there : Accepts (beginDef s code a b) → Accepted s code a b
+    there : Accepts (stepDef s (call code a b)) → Accepted s code a b
     there =
         cond-case (λ o. Accepts o → Accepted s code a b) (illFormed s) (λ e h. absurd h)
         (λ e. cond-case (λ o. Accepts o → Accepted s code a b) (not (argumentsOk code a b)) (λ e₁ h. absurd h)
@@ -82,7 +83,7 @@ accepted-iff s code a b = (there, back)
         (λ e₂. cond-case (λ o. Accepts o → Accepted s code a b) (notUp code (s .driver .up)) (λ e₃ h. absurd h)
         (λ e₃ h. record { none-waiting = eqb-true (s .code) 0 (not-false (eqb (s .code) 0) e₂); arguments = sym (range-is code a b) ∙ not-false (argumentsOk code a b) e₁; ready = ok-ready s code e₃ }))))
 
-    back : Accepted s code a b → Accepts (beginDef s code a b)
+    back : Accepted s code a b → Accepts (stepDef s (call code a b))
     back h =
         rw (h .none-waiting, range-is code a b ∙ h .arguments, ready-ok s code (h .ready))
         (decide-accepts (programOf code .entry (ctxOf (begun s code a b))) (programOf code) 0 0 (begun s code a b))

@@ -53,7 +53,7 @@ carried-places = record {
 
 held-values : HeldValues
 unfolding replyDef malformed stray arrive programOf programs tuning greatest argumentsOk ceilings ceilingOf
-held-values = record { any-address = refl; twelve-bits = refl; short-budget = refl; at-ceiling = refl; over-ceiling = refl }
+held-values = record { any-address = refl; twelve-bits = refl; short-budget = refl; pair = refl; at-ceiling = refl; over-ceiling = refl }
 
 pub session-values : SessionValues
 unfolding runDef runRecords recordsOf runFrom stepDef beginDef replyDef malformed stray arrive programOf programs tuning greatest argumentsOk ceilings ceilingOf

@@ -9,6 +9,7 @@ use lib.Dec.{eqb, ltb}
 use lib.ListN.{drop}
 use lib.Seq.{drop-drop}
 use borrow.Author.Tests.{lt-leb, ltb-true, ltb-false}
+use Rattle.session.specs.Records.{stepDef, reply}
 use Rattle.session.specs.Bus.{Transfer, Answer, Reply, bad, good, Condition, waitLimit, idleOn}
 use Rattle.session.specs.Instructions.{Ctx, stopAnswer, Verdict, onward, leap, stop, test, Op, write, read, wait, range, Final, success, failure, sendOf, readWins, reportOf}
 use Rattle.session.specs.Steps.{slot}
@@ -247,7 +248,7 @@ taking rs s t r o x y e f = go (isClean t r)
     go false = ap (refuses Answer.StrayByte) f
 
 pub bisim : (rs : List Raw) → Claim rs
-unfolding follows drive
+unfolding follows drive stepDef
 bisim [] s op rest g = out s op rest g
 bisim (r ∷ rs) s op rest g =
     let t : Transfer = sendOf op (ctxOf s) in

@@ -4,6 +4,7 @@ use mathlib.Core.Bool.{true, false}
 use mathlib.Core.List.{List}
 use Prim.Native.Nat.{ℕ}
 use native.Mathlib.Omega.{arith}
+use Rattle.session.specs.Records.{stepDef, call}
 use Rattle.session.specs.Bus.{Driver}
 use Rattle.session.specs.Instructions.{Ctx}
 use Rattle.session.specs.Calls.{opsOf, programOf, argumentsOk}
@@ -33,7 +34,7 @@ each s a b =
     (same-1 d a b, (same-2 d a b, (same-3 d a b, (same-4 d a b, (same-5 d a b, (same-6 d a b, (same-7 d a b, (same-8 d a b, (same-9 d a b, (same-10 d a b, (same-11 d a b, (same-12 d a b, (same-13 d a b, (same-14 d a b, (same-15 d a b, tt)))))))))))))))
 
 pub demand-2 : (s : Session) (code a b : ℕ) → Accepted s code a b → (rs : List Raw) → Demand2 s code a b rs
-unfolding beginDef
+unfolding beginDef stepDef
 demand-2 s code a b c rs =
     let h : argumentsOk code a b ≡ true = range-is code a b ∙ c .arguments in
     let u : notUp code (s .driver .up) ≡ false = ready-ok s code (c .ready) in

@@ -1,11 +1,12 @@
 -- Demand 3: one claim about every list of records that is run from a fresh session.
-use mathlib.Core.Path.{_≡_, refl, ap, _∙_}
+use mathlib.Core.Path.{_≡_, refl, ap, _∙_, sym}
 use mathlib.Core.Bool.{true, false}
 use mathlib.Core.List.{List, [], _∷_}
-use Prim.Native.Nat.{ℕ, _≤_, _+_, zero-le}
+use Prim.Native.Nat.{ℕ, _≤_, _+_, _*_, _%_, zero-le}
 use native.Mathlib.Omega.{arith}
 use lib.Dec.{eqb}
 use lib.ListN.{length}
+use borrow.Author.Tests.{eqb-false}
 use Rattle.session.specs.Bus.{Driver, Answer, Reply}
 use Rattle.session.specs.Instructions.{Op, sendOf}
 use Rattle.session.specs.Machine.{Session, Outcome, sent, answered, refused, broken, resting, freshSession, ctxOf, toReply, illFormed}
@@ -104,6 +105,21 @@ of-waiting f s g [] z k (rests e w) = ap g e ∙ z
 of-waiting f s g (c ∷ cs) z k (rests e w) = rw (none-waiting (c .standing) (waitingIn cs) w) (ap g e ∙ z)
 of-waiting f s g cs z k (waits op rest m w) = k op rest _ _ m
 
+-- eight bytes a record
+eight-each : (l : List ℕ) → length l % 8 ≡ 0 → length l ≡ 8 * length (recordsOf l)
+unfolding recordsOf
+eight-each [] h = refl
+eight-each (a ∷ []) h = absurd (omega (arith, h))
+eight-each (a ∷ b ∷ []) h = absurd (omega (arith, h))
+eight-each (a ∷ b ∷ c ∷ []) h = absurd (omega (arith, h))
+eight-each (a ∷ b ∷ c ∷ d ∷ []) h = absurd (omega (arith, h))
+eight-each (a ∷ b ∷ c ∷ d ∷ e ∷ []) h = absurd (omega (arith, h))
+eight-each (a ∷ b ∷ c ∷ d ∷ e ∷ f ∷ []) h = absurd (omega (arith, h))
+eight-each (a ∷ b ∷ c ∷ d ∷ e ∷ f ∷ g ∷ []) h = absurd (omega (arith, h))
+eight-each (a ∷ b ∷ c ∷ d ∷ e ∷ f ∷ g ∷ i ∷ l) h =
+    let z : length l % 8 ≡ 0 = omega (arith, h) in
+    omega (arith, eight-each l z)
+
 -- the records of a whole list
 of-records : (bytes : List ℕ) → isWhole bytes ≡ true → Demand3 bytes (runRecords freshSession (recordsOf bytes))
 unfolding runRecords
@@ -120,6 +136,7 @@ of-records bytes e =
       absent-while-down = λ d. i .driver ∙ fields-are (callsOf h) (i .begun-up) ∙ down (callsOf h) d;
       answer = rw e (q .answered);
       records = rw e (q .records);
+      eights = λ z. eight-each bytes z ∙ ap (λ n. 8 * n) (sym (q .whole ∙ omega arith));
       tallied = q .tallied;
       counted = q .laws .counts;
       begun = length-calls h;
@@ -147,6 +164,7 @@ of-spare bytes e =
       absent-while-down = λ d. refl;
       answer = rw e;
       records = rw e;
+      eights = λ z. absurd (eqb-false (length bytes % 8) 0 e z);
       tallied = refl;
       counted = refl;
       begun = refl;

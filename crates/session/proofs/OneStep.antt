@@ -8,6 +8,7 @@ use borrow.Author.Tests.{leb-false, ltb-true, ltb-false}
 use lib.Dec.{ltb}
 use lib.ListN.{drop}
 use lib.Seq.{drop-drop}
+use Rattle.session.specs.Records.{stepDef, reply}
 use Rattle.session.specs.Bus.{Answer, Reply, bad, good, zeroFrom, cleanFrom, Condition, waitLimit, idleOn}
 use Rattle.session.specs.Instructions.{stopAnswer, Verdict, onward, leap, stop, test, Op, write, read, wait, range, Final, success, failure, sendOf, readWins, reportOf}
 use Rattle.session.specs.Steps.{slot}
@@ -140,7 +141,7 @@ module _ (s : Session) where
       (drop-next (s .step) (opsOf (programOf (s .code))) at) (arrives-stands (suc (s .step)) t (record { driver = refl; code = refl; a = refl; b = refl; transfers = refl }))
 
 pub step-by-step : (s : Session) (f : ℕ) (bs : List ℕ) → StepByStep s f bs
-unfolding replyDef
+unfolding replyDef stepDef
 step-by-step s f bs w m c = rw (w, m) (go (drop (s .step) (opsOf (programOf (s .code)))) refl (sound-step s m) c)
   where
     go : (l : List Op) → drop (s .step) (opsOf (programOf (s .code))) ≡ l → idleWrong (s .code) l (s .idle) ≡ false

@@ -2,7 +2,9 @@
 use mathlib.Core.Path.{_≡_, refl, sym, ap, subst, _∙_}
 use mathlib.Core.Bool.{true, false}
 use mathlib.Core.List.{List, [], _∷_}
-use Prim.Native.Nat.{ℕ}
+use Prim.Native.Nat.{ℕ, _%_}
+use borrow.Author.Tests.{eqb-true, eqb-false}
+use lib.ListN.{length}
 use Rattle.session.specs.Bus.{Answer}
 use Rattle.session.specs.Machine.{Session, Outcome, sent, answered, refused, broken, illFormed}
 use Rattle.session.specs.Records.{Record, recordsOf, isWhole, stepDef}
@@ -47,9 +49,9 @@ pub run-ends : (s : Session) (bytes : List ℕ) → RunEnds s bytes (runDef s by
 unfolding runDef runRecords
 run-ends s bytes =
     cond-case (RunEnds s bytes) (isWhole bytes)
-    (λ w. cond-case (RunEnds s bytes) (illFormed s) (λ i. ill-formed-given w i) (λ i. go w i (runFrom s (recordsOf bytes) s []) (over s (recordsOf bytes) s [] refl tt)))
-    (λ w. spare-bytes w)
+    (λ w. cond-case (RunEnds s bytes) (illFormed s) (λ i. ill-formed-given (eqb-true (length bytes % 8) 0 w) i) (λ i. go (eqb-true (length bytes % 8) 0 w) i (runFrom s (recordsOf bytes) s []) (over s (recordsOf bytes) s [] refl tt)))
+    (λ w. spare-bytes (eqb-false (length bytes % 8) 0 w))
   where
-    go : isWhole bytes ≡ true → illFormed s ≡ false → (run : Run) → Over s (recordsOf bytes) run → RunEnds s bytes run
+    go : length bytes % 8 ≡ 0 → illFormed s ≡ false → (run : Run) → Over s (recordsOf bytes) run → RunEnds s bytes run
     go w i run (met h r rest e g m) = ill-formed-met w h r rest e g m
     go w i run (through h e g) = all-run w i h e g

@@ -9,6 +9,7 @@ use native.Mathlib.Nat.{not-suc-le-zero, le-of-suc-le-suc}
 use lib.Dec.{eqb, ltb}
 use lib.ListN.{drop}
 use borrow.Author.Tests.{eqb-true, eqb-false, ne-eqb, not-true, not-false}
+use Rattle.session.specs.Records.{stepDef, reply}
 use Rattle.session.specs.Bus.{Transfer, Answer, byte, zeroFrom}
 use Rattle.session.specs.Instructions.{Op, sendOf}
 use Rattle.session.specs.Calls.{opsOf, programOf, ceilingOf, argumentsOk}
@@ -68,8 +69,8 @@ sound-step s h =
     let d : Bool = eqb (s .transfers) 0 in
     or-parts ab c (or-parts (ab || c) d (or-parts ((ab || c) || d) (ltb (ceilingOf (s .code)) (s .transfers)) h .0) .0) .1
 
-pub refused-12 : (s : Session) (f : ℕ) (bs : List ℕ) → (replyDef s f bs ≡ refused Answer.StrayByte s) ↔ Refused12 s f bs
-unfolding replyDef
+pub refused-12 : (s : Session) (f : ℕ) (bs : List ℕ) → (stepDef s (reply f bs) ≡ refused Answer.StrayByte s) ↔ Refused12 s f bs
+unfolding replyDef stepDef
 refused-12 s f bs = (there, back)
   where
     at : (l : List Op) → ((s .code ≡ 0) → ⊥) → malformed s ≡ false → drop (s .step) (opsOf (programOf (s .code))) ≡ l → onOps l (programOf (s .code)) s f bs ≡ refused Answer.StrayByte s → Refused12 s f bs
@@ -79,7 +80,7 @@ refused-12 s f bs = (there, back)
         (λ h q. record { waiting = w; sound = m; stray = rw e (strays (sendOf op (ctxOf s)) f bs h) })
         (λ h q. absurd (subst Accepts q (react-accepts op (programOf (s .code)) s (toReply f bs))))
 
-    there : replyDef s f bs ≡ refused Answer.StrayByte s → Refused12 s f bs
+    there : stepDef s (reply f bs) ≡ refused Answer.StrayByte s → Refused12 s f bs
     there =
         cond-case (λ o. o ≡ refused Answer.StrayByte s → Refused12 s f bs) (illFormed s)
         (λ m q. let z : _≡_ {A = ℕ} 0 1 = cc in absurd (omega arith))
@@ -93,7 +94,7 @@ refused-12 s f bs = (there, back)
     on [] i x = wrong i
     on (op ∷ rest) i x = rw (is-stray (sendOf op (ctxOf s)) f bs x)
 
-    back : Refused12 s f bs → replyDef s f bs ≡ refused Answer.StrayByte s
+    back : Refused12 s f bs → stepDef s (reply f bs) ≡ refused Answer.StrayByte s
     back r =
         rw (ne-eqb (s .code) 0 (r .waiting), r .sound)
         (on (drop (s .step) (opsOf (programOf (s .code)))) (sound-step s (r .sound)) (r .stray))

@@ -3,7 +3,7 @@
 use mathlib.Core.Path.{_≡_}
 use mathlib.Core.Bool.{true, false}
 use mathlib.Core.List.{List, [], _∷_}
-use Prim.Native.Nat.{ℕ, _+_}
+use Prim.Native.Nat.{ℕ, _+_, _*_}
 use lib.ListN.{replicate}
 use lib.Seq.{sets}
 use Rattle.session.specs.Bus.{Answer, byte, transferOf, numberOf, valuesOf}
@@ -87,6 +87,8 @@ pub record HeldValues : Type 0 where
   pub twelve-bits : replied1 (held 10 0xFFFF 0xFFFF 0 1 []) 0 ≡ sent (transferOf 0x29 (0x0C ∷ 0x0F ∷ 0xFF ∷ []) 1) (held 10 0xFFFF 0xFFFF 1 2 [])
   pub short-budget : replied1 (held 9 3000 0 6 7 []) 0
       ≡ answered (Answer.Done 0) 7 (resting (record { up = true; address = 0x29; stop = 0x3C; budget = 3000 }))
+  -- 01: "low × 65536 + high for call 11"
+  pub pair : replyDef (held 11 0 0 1 2 (0x00 ∷ 0x96 ∷ [])) 0 (0x0F ∷ 0xFF ∷ 0 ∷ 0 ∷ 0 ∷ 0 ∷ []) ≡ answered (Answer.Done (300 * 65536 + 8190)) 2 (resting (held 11 0 0 1 2 [] .driver))
   -- a count at the ceiling passes 15, and is over it one transfer later
   pub at-ceiling : replied1 (held 4 0 0 0 10 []) 0 ≡ sent (transferOf 0x29 (0xFF ∷ 0x01 ∷ []) 1) (held 4 0 0 1 11 [])
   pub over-ceiling : replied1 (held 4 0 0 1 11 []) 0 ≡ broken (held 4 0 0 1 11 [])

@@ -4,14 +4,14 @@ use mathlib.Core.Path.{_≡_}
 use mathlib.Core.Bool.{Bool, true, false, _||_, cond}
 use mathlib.Core.List.{List, [], _∷_}
 use mathlib.Core.Option.{Option, some, none}
-use Prim.Native.Nat.{ℕ, _≤_}
+use Prim.Native.Nat.{ℕ, _%_, _≤_}
 use lib.Dec.{eqb}
 use lib.ListN.{length, drop}
 use Rattle.session.specs.Bus.{Transfer, Answer, byte, transferOf, bytesOf, zeroFrom, numberOf, valuesOf, absent}
 use Rattle.session.specs.Instructions.{Ctx, Op, sendOf}
 use Rattle.session.specs.Calls.{opsOf, programOf}
-use Rattle.session.specs.Machine.{Session, Outcome, sent, answered, refused, broken, resting, ctxOf, malformed, illFormed, beginDef}
-use Rattle.session.specs.Records.{Record, call, recordsOf, isWhole, stepDef}
+use Rattle.session.specs.Machine.{Session, Outcome, sent, answered, refused, broken, resting, ctxOf, malformed, illFormed}
+use Rattle.session.specs.Records.{Record, call, recordsOf, stepDef}
 use Rattle.session.specs.Refusals.{refusals, firstOf, atOnce, firstAnswer}
 use Rattle.session.specs.History.{Entry, countsOf, Run, stopped, sessionAfter, Genuine, inOrder}
 
@@ -73,7 +73,7 @@ pub record Demand1 (s : Session) (r : Record) : Type 0 where
 
 -- a call that the table does not refuse is answered at once by its rows 5, 6 and the first 1, with no transfer made; else it makes its first transfer
 abbrev pub AtOnce : Session → ℕ → ℕ → ℕ → Type 0
-AtOnce s code a b = firstOf (refusals s (call code a b)) ≡ 0 → answerShown (beginDef s code a b) ≡ firstAnswer (atOnce code a b)
+AtOnce s code a b = firstOf (refusals s (call code a b)) ≡ 0 → answerShown (stepDef s (call code a b)) ≡ firstAnswer (atOnce code a b)
 
 -- a data byte that is not zero, past the read length or beside a failure
 pub data Stray (reads f : ℕ) (bs : List ℕ) : Type 0 where
@@ -96,9 +96,9 @@ LeavesNone (broken s) = Unit {0}
 -- a slice of records, from any session. 14 for spare bytes; 15 if the session is ill-formed at the start or where a record meets it;
 -- else every record has what it gets, and the counts are those of the history
 pub data RunEnds (s : Session) (bytes : List ℕ) : Run → Type 0 where
-  spare-bytes : isWhole bytes ≡ false → RunEnds s bytes (stopped Answer.SpareBytes s)
-  ill-formed-given : isWhole bytes ≡ true → illFormed s ≡ true → RunEnds s bytes (stopped Answer.IllFormedSession s)
-  ill-formed-met : isWhole bytes ≡ true → (h : List Entry) (r : Record) (rest : List Record) → inOrder h (r ∷ rest) ≡ recordsOf bytes
+  spare-bytes : (length bytes % 8 ≡ 0 → ⊥) → RunEnds s bytes (stopped Answer.SpareBytes s)
+  ill-formed-given : length bytes % 8 ≡ 0 → illFormed s ≡ true → RunEnds s bytes (stopped Answer.IllFormedSession s)
+  ill-formed-met : length bytes % 8 ≡ 0 → (h : List Entry) (r : Record) (rest : List Record) → inOrder h (r ∷ rest) ≡ recordsOf bytes
       → Genuine s h → illFormed (sessionAfter s h) ≡ true → RunEnds s bytes (stopped Answer.IllFormedSession s)
-  all-run : isWhole bytes ≡ true → illFormed s ≡ false → (h : List Entry) → inOrder h [] ≡ recordsOf bytes → Genuine s h
+  all-run : length bytes % 8 ≡ 0 → illFormed s ≡ false → (h : List Entry) → inOrder h [] ≡ recordsOf bytes → Genuine s h
       → RunEnds s bytes (record { answer = Answer.Done 0; session = sessionAfter s h; counts = countsOf h; history = h })

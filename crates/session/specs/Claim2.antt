@@ -4,8 +4,9 @@ use mathlib.Core.Path.{_≡_}
 use mathlib.Core.Bool.{true, false}
 use mathlib.Core.List.{List, [], _∷_}
 use Prim.Native.Nat.{ℕ, _+_}
+use Rattle.session.specs.Records.{stepDef, call, reply}
 use Rattle.session.specs.Bus.{Answer, Reply, zeroFrom, cleanFrom}
-use Rattle.session.specs.Machine.{Session, Outcome, sent, answered, refused, broken, malformed, waitsNow, replyDef, beginDef}
+use Rattle.session.specs.Machine.{Session, Outcome, sent, answered, refused, broken, malformed, waitsNow}
 use Rattle.session.specs.Refusals.{ranges, inRange}
 use Rattle.session.specs.Script.{Script, done, send, Raw, dataOf, cut, Trace, sends, refuses, waits, ends, play}
 use Rattle.session.specs.RustBringUp.{rust}
@@ -30,11 +31,11 @@ seen (answered a n s) x = ends a (s .driver)
 seen (refused a s) x = refuses a x
 seen (broken s) x = refuses Answer.IllFormedSession x
 
--- the machine over a list of reply records, as they come
+-- a session over a list of reply records, as they come
 unfoldable pub follows : List Raw → Session → Trace
 follows [] s = waits
 follows (r ∷ rs) s =
-    seen (replyDef s (r .failure) (dataOf r)) (follows rs (sessionOf (replyDef s (r .failure) (dataOf r))))
+    seen (stepDef s (reply (r .failure) (dataOf r))) (follows rs (sessionOf (stepDef s (reply (r .failure) (dataOf r)))))
 
 unfoldable pub drive : List Raw → Outcome → Trace
 drive rs o = seen o (follows rs (sessionOf o))
@@ -42,7 +43,7 @@ drive rs o = seen o (follows rs (sessionOf o))
 -- what is seen of the machine over the replies is what is seen of the Rust: transfers, refused replies, the answer and the fields at its end.
 -- A panic of the Rust is its answer 8 with the place
 abbrev pub Demand2 : Session → ℕ → ℕ → ℕ → List Raw → Type 0
-Demand2 s code a b replies = drive replies (beginDef s code a b) ≡ play (rust (s .driver) code a b) replies
+Demand2 s code a b replies = drive replies (stepDef s (call code a b)) ≡ play (rust (s .driver) code a b) replies
 
 -- a waiting session that 15 lets pass, also one that no run leaves, stands in the script of its instructions:
 -- a reply that is not refused takes both one step on
@@ -69,4 +70,4 @@ StepByStep s f bs =
     waitsNow s ≡ true
     → malformed s ≡ false
     → zeroFrom (cleanFrom f (outstanding s .reads)) bs ≡ true
-    → StandsAt s (replyDef s f bs) (hears (left s) (cut (outstanding s) f bs))
+    → StandsAt s (stepDef s (reply f bs)) (hears (left s) (cut (outstanding s) f bs))

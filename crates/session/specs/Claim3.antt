@@ -3,12 +3,12 @@
 use mathlib.Core.Path.{_≡_}
 use mathlib.Core.Bool.{Bool, true, false, _||_, _&&_, cond}
 use mathlib.Core.List.{List, [], _∷_}
-use Prim.Native.Nat.{ℕ, zero, suc, _+_, _%_, _≤_}
+use Prim.Native.Nat.{ℕ, zero, suc, _+_, _*_, _%_, _≤_}
 use lib.Dec.{eqb, T}
 use lib.ListN.{length, getD}
 use Rattle.session.specs.Bus.{Driver, Transfer, Answer, byte, bytesOf, Reply, bad, good, failureIn, dataIn, Condition, detectorReady, statusReady, started, numberOf, valuesOf, absent, withAddress, withBudget}
 use Rattle.session.specs.Machine.{freshSession}
-use Rattle.session.specs.Records.{recordsOf, isWhole}
+use Rattle.session.specs.Records.{recordsOf}
 use Rattle.session.specs.Script.{Raw, Trace, sends, refuses, waits, ends, play}
 use Rattle.session.specs.RustBringUp.{rust}
 use Rattle.session.specs.History.{callsIn, answersIn, repliesIn, transfersIn, refusedIn, Run, sessionAfter, Genuine, inOrder, Exchange, by, Standing, waiting, ended, CallRun, callsOf, isWaiting, waitingIn, transfersOf}
@@ -264,8 +264,9 @@ pub record Demand3 (bytes : List ℕ) (run : Run) : Type 0 where
   pub fields : run .session .driver ≡ driverOf (callsOf (run .history))
   pub absent-while-down : isUp (callsOf (run .history)) ≡ false → run .session .driver ≡ absent
   -- the run goes through all records and never meets 15; spare bytes are 14
-  pub answer : run .answer ≡ cond (isWhole bytes) (Answer.Done 0) Answer.SpareBytes
-  pub records : inOrder (run .history) [] ≡ cond (isWhole bytes) (recordsOf bytes) []
+  pub answer : run .answer ≡ cond (eqb (length bytes % 8) 0) (Answer.Done 0) Answer.SpareBytes
+  pub records : inOrder (run .history) [] ≡ cond (eqb (length bytes % 8) 0) (recordsOf bytes) []
+  pub eights : length bytes % 8 ≡ 0 → length bytes ≡ 8 * length (run .history)
   -- each record has what the definitions of demands 1 and 2 give it, and the session is the one that the last record left
   pub genuine : Genuine freshSession (run .history)
   pub session : run .session ≡ sessionAfter freshSession (run .history)
