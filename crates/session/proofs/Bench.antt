@@ -64,6 +64,7 @@ session-values = record {
   fresh = refl;
   call-record = refl;
   reply-record = refl;
+  other-records = refl;
   printed = refl;
 }
 

@@ -9,7 +9,7 @@ use lib.Seq.{sets}
 use Rattle.session.specs.Bus.{Answer, byte, transferOf, numberOf, valuesOf}
 use Rattle.session.specs.Instructions.{timingSlot}
 use Rattle.session.specs.Machine.{Session, Outcome, sent, answered, broken, zeros, resting, freshSession, replyDef}
-use Rattle.session.specs.Records.{call, reply, recordsOf}
+use Rattle.session.specs.Records.{other, call, reply, recordsOf}
 use Rattle.session.specs.History.{transfer, answer, runDef}
 
 -- 01: "Input 01 01 00 00 00 29 00 00, 02 00 00 00 00 00 00 00 prints T 29 C0 1, A 2 0 1"
@@ -114,6 +114,7 @@ pub record SessionValues : Type 0 where
   pub call-record : recordsOf (0x01 ∷ 0x02 ∷ 0x13 ∷ 0x24 ∷ 0x35 ∷ 0x46 ∷ 0x57 ∷ 0x68 ∷ []) ≡ call 0x02 0x13243546 0x5768 ∷ []
   pub reply-record : recordsOf (0x02 ∷ 0x01 ∷ 0x13 ∷ 0x24 ∷ 0x35 ∷ 0x46 ∷ 0x57 ∷ 0x68 ∷ [])
       ≡ reply 0x01 (0x13 ∷ 0x24 ∷ 0x35 ∷ 0x46 ∷ 0x57 ∷ 0x68 ∷ []) ∷ []
+  pub other-records : recordsOf (0x03 ∷ 0x02 ∷ 0 ∷ 0 ∷ 0 ∷ 0 ∷ 0 ∷ 0 ∷ 0x0A ∷ 0x01 ∷ 0 ∷ 0 ∷ 0 ∷ 0 ∷ 0 ∷ 0 ∷ 0x00 ∷ 0x02 ∷ 0 ∷ 0 ∷ 0 ∷ 0 ∷ 0 ∷ 0 ∷ []) ≡ other ∷ other ∷ other ∷ []
   pub printed : runDef freshSession input
       ≡ record {
         answer = Answer.Done 0;
