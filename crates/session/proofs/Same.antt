@@ -36,18 +36,9 @@ spads-are =
     fun-ext (λ count. fun-ext (λ aperture. fun-ext (λ bytes.
     loop-selects (byte 0 bytes) (byte 1 bytes) (byte 2 bytes) (byte 3 bytes) (byte 4 bytes) (byte 5 bytes) count aperture)))
 
--- perform_single_ref_calibration: `0x01 | vhv_init_byte`
-vhv : orByte 0x01 0x40 ≡ 0x41
-unfolding orByte eachBit bitsOf byteOf
-vhv = refl
-
-phase : orByte 0x01 0x00 ≡ 0x01
-unfolding orByte eachBit bitsOf byteOf
-phase = refl
-
 pub same-1 : (d : Driver) (a b : ℕ) → script 1 (fresh 1 absent a a b) ≡ rust d 1 a b
-unfolding programOf programs rust calls idleOn tuning entriesOf lessPlace
-same-1 d a b = rw or-is (rw and-is (rw no-interrupt-is (rw spad-count-is (rw aperture-is (rw spads-are (rw (quarter-in, quarter-word) (rw (vhv, phase) (rw get-is (rw set-is)))))))))
+unfolding programOf programs rust calls idleOn tuning entriesOf lessPlace orByte eachBit bitsOf byteOf
+same-1 d a b = rw (or-is, and-is) (rw (no-interrupt-is, spad-count-is) (rw (aperture-is, spads-are) (rw (quarter-in, quarter-word) (rw get-is (rw set-is)))))
 
 pub same-2 : (d : Driver) (a b : ℕ) → script 2 (fresh 2 d (d .address) a b) ≡ rust d 2 a b
 unfolding programOf programs rust calls
