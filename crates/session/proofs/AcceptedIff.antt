@@ -12,9 +12,10 @@ use Rattle.session.specs.Calls.{programOf, greatest, argumentsOk}
 use Rattle.session.specs.Machine.{Session, ctxOf, waitsNow, illFormed, begun, notUp, beginDef}
 use Rattle.session.specs.Refusals.{ranges, inRange}
 use Rattle.session.specs.Claim2.{Ready, bring-up, while-up, Accepted}
+use Rattle.session.specs.Claim1.{Accepts}
 use Rattle.session.proofs.Facts.{cond-case}
 use Rattle.session.proofs.Table.{AllBelow, below}
-use Rattle.session.proofs.Accepts.{Accepts, decide-accepts}
+use Rattle.session.proofs.Accepts.{decide-accepts}
 
 -- the arguments that 13 lets pass are those of 01's table
 abbrev Same : ℕ → Type 0

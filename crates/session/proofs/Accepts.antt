@@ -8,11 +8,9 @@ use lib.Dec.{ltb}
 use lib.ListN.{drop}
 use Rattle.session.specs.Bus.{Driver, Transfer, Answer, Reply, bad, good, waitLimit, idleOn}
 use Rattle.session.specs.Instructions.{Ctx, Verdict, onward, leap, stop, test, Op, write, read, wait, range, Final, success, failure, sendOf}
-use Rattle.session.specs.Steps.{slot}
 use Rattle.session.specs.Calls.{Program, opsOf, programOf}
-use Rattle.session.specs.Machine.{Session, Outcome, sent, answered, refused, broken, resting, ctxOf, keptOf, giving, conclude, enter, arrive, decide, react, toReply, stray, onOps, waitsNow, illFormed, replyDef}
-use Rattle.session.specs.Script.{done}
-use Rattle.session.specs.Claim1.{LeavesNone}
+use Rattle.session.specs.Machine.{Session, Outcome, sent, answered, resting, ctxOf, keptOf, giving, conclude, enter, arrive, decide, react, toReply, stray, onOps, waitsNow, illFormed, replyDef}
+use Rattle.session.specs.Claim1.{Accepts, LeavesNone}
 use Rattle.session.proofs.Facts.{cond-case}
 
 -- a property of what a call gives, for every session of the call
@@ -49,13 +47,6 @@ module _ (P : Outcome → Type 0) (code : ℕ)
       cond-case P (idleOn w bs) (λ h. cond-case P (ltb (suc (x .idle)) (waitLimit (x .code) w)) (λ h′. out _ _) (λ h′. end _ x e)) (λ h. arrive-all p _ x e)
   react-all range p x (bad k) e = arrive-all p _ _ e
   react-all range p x (good bs) e = arrive-all p _ _ e
-
--- not a refusal and not 15
-abbrev pub Accepts : Outcome → Type 0
-Accepts (sent t s) = Unit {0}
-Accepts (answered x n s) = Unit {0}
-Accepts (refused n s) = ⊥
-Accepts (broken s) = ⊥
 
 pub decide-accepts : (v : Verdict) (p : Program) (over k : ℕ) (x : Session) → Accepts (decide v p over k x)
 decide-accepts v p over k x = decide-all Accepts (x .code) (λ t s. tt) (λ v n d. tt) (λ y s e. tt) v p over k x refl

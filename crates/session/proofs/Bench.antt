@@ -4,6 +4,8 @@ use Prim.Native.Nat.{ℕ, _+_, _*_, _/_, _%_, _<_}
 use native.Mathlib.Omega.{arith}
 use borrow.Author.Tests.{ne-eqb}
 use mathlib.Core.List.{List, [], _∷_, _++_}
+use lib.Ieee.{span, climb, size, odd, units, round, lt, eq, le, ofFields, ofBits}
+use Rattle.rate.specs.Rate.{literal, inRange, rateOf, signalRateLimitWord}
 use Rattle.budget.specs.Budget.{measurementTimingBudget}
 use Rattle.budget.specs.Sums.{dssOrMsrc, stepSum, budgetSum}
 use Rattle.timing.specs.Places.{timeoutPlace, periodPlace, lessPlace, entriesOf, firstOf, firstPlace}
@@ -11,11 +13,11 @@ use Rattle.timing.specs.Timeouts.{timeoutClocks, periodClocks, preShare, finalC
 use Rattle.clock.specs.Clock.{decodeTimeout, decodeVcselPeriod, microsecondsOf}
 use Rattle.session.specs.Bus.{Driver}
 use Rattle.session.specs.Calls.{tuning, programs, programOf, defaultAddress, ceilings, ceilingOf, greatest, argumentsOk}
-use Rattle.session.specs.Machine.{arrive, stray, malformed, replyDef, beginDef}
-use Rattle.session.specs.Records.{call, reply, other, recordOf, callBytes, replyBytes, recordsOf, stepDef}
-use Rattle.session.specs.RustBringUp.{new, calls, rust}
+use Rattle.session.specs.Machine.{refused, arrive, stray, malformed, replyDef, beginDef, otherDef}
+use Rattle.session.specs.Records.{call, reply, other, callBytes, replyBytes, recordsOf, stepDef}
+use Rattle.session.specs.RustBringUp.{new, pair, calls, rust}
 use Rattle.session.specs.History.{runFrom, runRecords, runDef}
-use Rattle.session.specs.Bench.{AnswerValues, CarriedPlaces, HeldValues, SessionValues}
+use Rattle.session.specs.Bench.{AnswerValues, CarriedPlaces, HeldValues, EdgeValues, SessionValues}
 
 answer-values : AnswerValues
 answer-values = record {
@@ -53,14 +55,22 @@ carried-places = record {
 
 held-values : HeldValues
 unfolding replyDef malformed stray arrive programOf programs tuning greatest argumentsOk ceilings ceilingOf
-held-values = record { any-address = refl; twelve-bits = refl; short-budget = refl; pair = refl; at-ceiling = refl; over-ceiling = refl }
+held-values = record { any-address = refl; twelve-bits = refl; short-budget = refl; no-period = refl; no-period-mode = refl; pair = refl; at-ceiling = refl; over-ceiling = refl }
+
+edge-values : EdgeValues
+unfolding stepDef beginDef malformed arrive programOf programs tuning greatest argumentsOk ceilings ceilingOf signalRateLimitWord rateOf inRange literal round units odd size climb span ofBits ofFields le lt eq
+edge-values = record { codes = refl; addresses = refl; thresholds = refl; gpio = refl; long = refl; unused = refl }
 
 pub session-values : SessionValues
-unfolding runDef runRecords recordsOf runFrom stepDef beginDef replyDef malformed stray arrive programOf programs tuning greatest argumentsOk ceilings ceilingOf
+unfolding runDef runRecords recordsOf runFrom stepDef beginDef replyDef otherDef malformed stray arrive programOf programs tuning greatest argumentsOk ceilings ceilingOf
 session-values = record {
   answers = answer-values;
   carried = carried-places;
   held = held-values;
+  rest = λ d. refl;
+  edges = edge-values;
+  refused = refl;
+  counted = refl;
   fresh = refl;
   call-record = refl;
   reply-record = refl;
@@ -85,8 +95,9 @@ pub reply-read : (f b₀ b₁ b₂ b₃ b₄ b₅ : ℕ) (l : List ℕ)
 unfolding recordsOf
 reply-read f b₀ b₁ b₂ b₃ b₄ b₅ l = refl
 
-pub no-kind : (k x b₂ b₃ b₄ b₅ b₆ b₇ : ℕ) → (k ≡ 1 → ⊥) → (k ≡ 2 → ⊥) → recordOf k x b₂ b₃ b₄ b₅ b₆ b₇ ≡ other
-no-kind k x b₂ b₃ b₄ b₅ b₆ b₇ h₁ h₂ = rw (ne-eqb k 1 h₁, ne-eqb k 2 h₂)
+pub no-kind : (k x b₂ b₃ b₄ b₅ b₆ b₇ : ℕ) (l : List ℕ) → (k ≡ 1 → ⊥) → (k ≡ 2 → ⊥) → recordsOf (k ∷ x ∷ b₂ ∷ b₃ ∷ b₄ ∷ b₅ ∷ b₆ ∷ b₇ ∷ l) ≡ other ∷ recordsOf l
+unfolding recordsOf
+no-kind k x b₂ b₃ b₄ b₅ b₆ b₇ l h₁ h₂ = rw (ne-eqb k 1 h₁, ne-eqb k 2 h₂)
 
 -- `new` is call 1 at the default address
 pub new-is-call-1 : (d : Driver) → rust d 1 defaultAddress 0 ≡ new

@@ -8,19 +8,19 @@ use borrow.Author.Tests.{leb-false, ltb-true, ltb-false}
 use lib.Dec.{ltb}
 use lib.ListN.{drop}
 use lib.Seq.{drop-drop}
-use Rattle.session.specs.Records.{stepDef, reply}
 use Rattle.session.specs.Bus.{Answer, Reply, bad, good, zeroFrom, cleanFrom, Condition, waitLimit, idleOn}
 use Rattle.session.specs.Instructions.{stopAnswer, Verdict, onward, leap, stop, test, Op, write, read, wait, range, Final, success, failure, sendOf, readWins, reportOf}
-use Rattle.session.specs.Steps.{slot}
 use Rattle.session.specs.Calls.{opsOf, programOf}
-use Rattle.session.specs.Machine.{Session, Outcome, sent, ctxOf, keptOf, sending, giving, conclude, enter, arrive, decide, react, stray, onOps, idleWrong, replyDef}
+use Rattle.session.specs.Machine.{Session, Outcome, sent, ctxOf, keptOf, sending, giving, conclude, enter, arrive, decide, react, stray, onOps, idleWrong, replyDef, begun, beginDef}
+use Rattle.session.specs.Records.{stepDef}
 use Rattle.session.specs.Script.{Script, done, waitLoop, cut}
 use Rattle.session.specs.Left.{concluded, decideS, failS, resume, resumeIn, leftOf}
 use Rattle.session.specs.Claim1.{firstOut}
-use Rattle.session.specs.Claim2.{hears, OneMore, StandsAt, StepByStep}
+use Rattle.session.specs.Claim2.{hears, OneMore, StandsAt, BeginsAt, StepByStep}
 use Rattle.session.proofs.Facts.{drop-next, untrue}
 use Rattle.session.proofs.Cut.{stray-is, react-cut}
 use Rattle.session.proofs.Strays.{sound-step}
+use Rattle.session.proofs.AcceptedIff.{range-is, ready-ok}
 use Rattle.session.proofs.Bisim.{resume-first, resume-skip}
 
 -- the same call with as many transfers
@@ -151,3 +151,9 @@ step-by-step s f bs w m c = rw (w, m) (go (drop (s .step) (opsOf (programOf (s .
     go (op ∷ rest) e h z =
         let n : stray (sendOf op (ctxOf s)) f bs ≡ false = stray-is (sendOf op (ctxOf s)) f bs ∙ ap not z in
         rw (n, react-cut op (programOf (s .code)) s f bs) (reacts-stands s op rest (cut (sendOf op (ctxOf s)) f bs) e h)
+
+pub begins-at : (s : Session) (code a b : ℕ) → BeginsAt s code a b
+unfolding beginDef stepDef
+begins-at s code a b c =
+    rw (c .none-waiting, range-is code a b ∙ c .arguments, ready-ok s code (c .ready))
+    (decides-stands (begun s code a b) (programOf code .entry (ctxOf (begun s code a b))) 0 0 (begun s code a b) (opsOf (programOf code)) (alike (begun s code a b)) refl)

@@ -15,10 +15,10 @@ use Rattle.session.specs.Calls.{Program, opsOf, tuning, nothing, program
 use Rattle.session.specs.Machine.{Session, Outcome, sent, answered, refused, broken, ctxOf, decide, react, toReply, stray, onOps, idleWrong, upWrong, malformed, waitsNow, illFormed, replyDef, begun, notUp, beginDef, otherDef}
 use Rattle.session.specs.Records.{Record, call, reply, other, stepDef}
 use Rattle.session.specs.Refusals.{ranges, inRange, limitRows, lengthRows, ceilingRows, busy, idleBad, forRecord, refusals, firstOf}
-use Rattle.session.specs.Claim1.{Single, one-refusal, refusalNumber}
+use Rattle.session.specs.Claim1.{Single, one-refusal, refusalNumber, Accepts}
 use Rattle.session.proofs.Good.{limit-positive}
 use Rattle.session.proofs.Cut.{stray-is}
-use Rattle.session.proofs.Accepts.{Accepts, decide-accepts, react-accepts}
+use Rattle.session.proofs.Accepts.{decide-accepts, react-accepts}
 use Rattle.session.proofs.Strays.{sound-step}
 use Rattle.session.proofs.AcceptedIff.{range-is}
 use Rattle.session.proofs.Single.{single}

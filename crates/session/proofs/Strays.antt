@@ -14,10 +14,10 @@ use Rattle.session.specs.Bus.{Transfer, Answer, byte, zeroFrom}
 use Rattle.session.specs.Instructions.{Op, sendOf}
 use Rattle.session.specs.Calls.{opsOf, programOf, ceilingOf, argumentsOk}
 use Rattle.session.specs.Machine.{Session, refused, ctxOf, toReply, stray, onOps, idleWrong, upWrong, malformed, waitsNow, illFormed, replyDef}
-use Rattle.session.specs.Claim1.{firstOut, refusalNumber, Stray, past-length, beside-failure, Refused12}
+use Rattle.session.specs.Claim1.{firstOut, refusalNumber, Stray, past-length, beside-failure, Refused12, Accepts}
 use Rattle.session.proofs.Facts.{cond-case, both}
 use Rattle.session.proofs.Cut.{stray-is}
-use Rattle.session.proofs.Accepts.{Accepts, react-accepts}
+use Rattle.session.proofs.Accepts.{react-accepts}
 
 wrong : {A : Type 0} → true ≡ false → A
 wrong h = let z : _≡_ {A = ℕ} 0 1 = cc in absurd (omega arith)

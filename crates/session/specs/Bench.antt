@@ -2,17 +2,19 @@
 -- and what a session that no run leaves makes of a reply.
 use mathlib.Core.Path.{_≡_}
 use mathlib.Core.Bool.{true, false}
-use mathlib.Core.List.{List, [], _∷_}
+use mathlib.Core.List.{List, [], _∷_, map, _++_}
 use Prim.Native.Nat.{ℕ, _+_, _*_}
 use lib.ListN.{replicate}
 use lib.Seq.{sets}
-use Rattle.session.specs.Bus.{Answer, byte, transferOf, numberOf, valuesOf}
+use Rattle.session.specs.Bus.{Driver, Answer, byte, transferOf, numberOf, valuesOf}
 use Rattle.session.specs.Instructions.{timingSlot}
-use Rattle.session.specs.Machine.{Session, Outcome, sent, answered, broken, zeros, resting, freshSession, replyDef}
-use Rattle.session.specs.Records.{other, call, reply, recordsOf}
-use Rattle.session.specs.History.{transfer, answer, runDef}
+use Rattle.session.specs.Machine.{Session, Outcome, sent, answered, refused, broken, zeros, resting, freshSession, replyDef}
+use Rattle.session.specs.Records.{call, reply, other, callBytes, replyBytes, recordsOf, stepDef}
+use Rattle.session.specs.RustBringUp.{pair}
+use Rattle.session.specs.History.{transfer, answer, refusal, Entry, runDef}
+use Rattle.session.specs.Claim1.{refusalNumber}
 
--- 01: "Input 01 01 00 00 00 29 00 00, 02 00 00 00 00 00 00 00 prints T 29 C0 1, A 2 0 1"
+-- 01: "Input 01 01 00 00 00 29 00 00, 02 00 00 00 00 00 00 00 prints", and then the lines T 29 C0 1 and A 2 0 1
 abbrev pub input : List ℕ
 input = 0x01 ∷ 0x01 ∷ 0x00 ∷ 0x00 ∷ 0x00 ∷ 0x29 ∷ 0x00 ∷ 0x00 ∷ 0x02 ∷ 0x00 ∷ 0x00 ∷ 0x00 ∷ 0x00 ∷ 0x00 ∷ 0x00 ∷ 0x00 ∷ []
 
@@ -87,16 +89,68 @@ pub record HeldValues : Type 0 where
   pub twelve-bits : replied1 (held 10 0xFFFF 0xFFFF 0 1 []) 0 ≡ sent (transferOf 0x29 (0x0C ∷ 0x0F ∷ 0xFF ∷ []) 1) (held 10 0xFFFF 0xFFFF 1 2 [])
   pub short-budget : replied1 (held 9 3000 0 6 7 []) 0
       ≡ answered (Answer.Done 0) 7 (resting (record { up = true; address = 0x29; stop = 0x3C; budget = 3000 }))
+  -- call 4 with period 0 at a timed step writes the product 0, and then the mode of period 0
+  pub no-period : replyDef (held 4 0 0 7 8 []) 0 (0x12 ∷ 0x34 ∷ 0 ∷ 0 ∷ 0 ∷ 0 ∷ []) ≡ sent (transferOf 0x29 (0x04 ∷ 0 ∷ 0 ∷ 0 ∷ 0 ∷ []) 1) (held 4 0 0 8 9 (0x12 ∷ 0x34 ∷ []))
+  pub no-period-mode : replied1 (held 4 0 0 8 9 (0x12 ∷ 0x34 ∷ [])) 0 ≡ sent (transferOf 0x29 (0x00 ∷ 0x02 ∷ []) 1) (held 4 0 0 9 10 (0x12 ∷ 0x34 ∷ []))
   -- 01: "low × 65536 + high for call 11"
   pub pair : replyDef (held 11 0 0 1 2 (0x00 ∷ 0x96 ∷ [])) 0 (0x0F ∷ 0xFF ∷ 0 ∷ 0 ∷ 0 ∷ 0 ∷ []) ≡ answered (Answer.Done (300 * 65536 + 8190)) 2 (resting (held 11 0 0 1 2 [] .driver))
   -- a count at the ceiling passes 15, and is over it one transfer later
   pub at-ceiling : replied1 (held 4 0 0 0 10 []) 0 ≡ sent (transferOf 0x29 (0xFF ∷ 0x01 ∷ []) 1) (held 4 0 0 1 11 [])
   pub over-ceiling : replied1 (held 4 0 0 1 11 []) 0 ≡ broken (held 4 0 0 1 11 [])
 
+-- a session that is up and rests
+abbrev pub standing : Session
+standing = resting (record { up = true; address = 0x29; stop = 0x3C; budget = 31326 })
+
+-- the refusal of a call there, 0 if it is accepted
+abbrev pub refusalOf : ℕ × ℕ × ℕ → ℕ
+refusalOf x = refusalNumber (stepDef standing (call (x .0) (x .1) (x .2)))
+
+-- 01: "Argument range: addresses to 255, low threshold to 65,535, functionality to 3, polarity to 1", and unused arguments zero
+pub record EdgeValues : Type 0 where
+  pub codes : map refusalOf ((0, 0, 0) ∷ (2, 0, 0) ∷ (15, 0, 0) ∷ (16, 0, 0) ∷ []) ≡ 13 ∷ 0 ∷ 0 ∷ 13 ∷ []
+  pub addresses : map refusalOf ((1, 255, 0) ∷ (1, 256, 0) ∷ (3, 255, 0) ∷ (3, 256, 0) ∷ []) ≡ 0 ∷ 13 ∷ 0 ∷ 13 ∷ []
+  pub thresholds : map refusalOf ((10, 65535, 65535) ∷ (10, 65536, 0) ∷ []) ≡ 0 ∷ 13 ∷ []
+  pub gpio : map refusalOf ((12, 3, 1) ∷ (12, 4, 0) ∷ (12, 0, 2) ∷ []) ≡ 0 ∷ 13 ∷ 13 ∷ []
+  pub long : map refusalOf ((4, 4294967295, 0) ∷ (9, 4294967295, 0) ∷ (14, 4294967295, 0) ∷ (4, 0, 1) ∷ (9, 0, 1) ∷ (14, 0, 1) ∷ []) ≡ 0 ∷ 0 ∷ 0 ∷ 13 ∷ 13 ∷ 13 ∷ []
+  pub unused : map refusalOf ((2, 1, 0) ∷ (5, 0, 1) ∷ (6, 1, 0) ∷ (7, 0, 1) ∷ (8, 1, 0) ∷ (11, 0, 1) ∷ (13, 1, 0) ∷ (15, 0, 1) ∷ (1, 0, 1) ∷ (3, 0, 1) ∷ []) ≡ replicate 10 13
+
+-- one of each refusal: call 2 while not up, a reply while no call waits, no kind, a bring-up, call 2 while it waits, a stray byte,
+-- the identity, a failure with a byte beside it
+abbrev pub refusedInput : List ℕ
+refusedInput =
+    callBytes 2 0 0
+    ++ replyBytes 0 []
+    ++ 0x03 ∷ 0 ∷ 0 ∷ 0 ∷ 0 ∷ 0 ∷ 0 ∷ 0 ∷ []
+    ++ callBytes 1 0x29 0
+    ++ callBytes 2 0 0
+    ++ replyBytes 0 (0xEE ∷ 0x01 ∷ [])
+    ++ replyBytes 0 (0x11 ∷ [])
+    ++ callBytes 1 0x30 0
+    ++ replyBytes 7 (0x01 ∷ [])
+
+abbrev pub refusedHistory : List Entry
+refusedHistory =
+    record { what = reply 7 (0x01 ∷ 0 ∷ 0 ∷ 0 ∷ 0 ∷ 0 ∷ []); got = refusal Answer.StrayByte }
+    ∷ record { what = call 1 0x30 0; got = transfer (transferOf 0x30 (0xC0 ∷ []) 1) }
+    ∷ record { what = reply 0 (0x11 ∷ 0 ∷ 0 ∷ 0 ∷ 0 ∷ 0 ∷ []); got = answer (Answer.InvalidDevice 0x11) 1 }
+    ∷ record { what = reply 0 (0xEE ∷ 0x01 ∷ 0 ∷ 0 ∷ 0 ∷ 0 ∷ []); got = refusal Answer.StrayByte }
+    ∷ record { what = call 2 0 0; got = refusal Answer.CallWaits }
+    ∷ record { what = call 1 0x29 0; got = transfer (transferOf 0x29 (0xC0 ∷ []) 1) }
+    ∷ record { what = other; got = refusal Answer.IllFormedRecord }
+    ∷ record { what = reply 0 (0 ∷ 0 ∷ 0 ∷ 0 ∷ 0 ∷ 0 ∷ []); got = refusal Answer.NoCallWaits }
+    ∷ record { what = call 2 0 0; got = refusal Answer.NotUp }
+    ∷ []
+
 pub record SessionValues : Type 0 where
   pub answers : AnswerValues
   pub carried : CarriedPlaces
   pub held : HeldValues
+  -- an answer leaves the driver's fields and zeros
+  pub rest : (d : Driver) → resting d ≡ record { driver = d; code = 0; a = 0; b = 0; step = 0; idle = 0; transfers = 0; failed = 0; own = 0; carried = replicate 24 0 }
+  pub edges : EdgeValues
+  pub refused : runDef freshSession refusedInput .history ≡ refusedHistory
+  pub counted : runDef freshSession refusedInput .counts ≡ record { calls = 2; answers = 1; replies = 1; transfers = 2; refused = 6 }
   pub fresh : freshSession
       ≡ record {
         driver = record { up = false; address = 0; stop = 0; budget = 0 };

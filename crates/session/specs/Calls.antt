@@ -106,7 +106,7 @@ bringUpSteps =
     ∷ rows tuning
     ++ gpioSteps (Instruction.Write 0x0A 0x04) (Instruction.WriteAnd 0x84 0xEF)
     ++ budgetReads
-    ++ Instruction.RestoreSteps
+    ++ Instruction.WriteSteps
     ∷ budgetSteps secondSlot
     ++ Instruction.Write 0x01 0x01
     ∷ calibration 0x41
@@ -141,13 +141,16 @@ plain steps = valued steps (λ c. 0)
 abbrev pub ranging : List Instruction → Program
 ranging steps = record { entry = pass; steps = steps ++ Instruction.ReadRange ∷ clearing; final = rangeResult }
 
+-- call 1, lib.rs: with_address
 abbrev pub withAddressCall : Program
 withAddressCall = record { entry = pass; steps = bringUpSteps; final = λ c. success 0 (broughtUp (c .a) (c .carried) (c .own)) }
 
+-- call 2, lib.rs: who_am_i
 abbrev pub whoAmI : Program
 whoAmI = valued (Instruction.Read 0xC0 identitySlot ∷ []) (slot identitySlot)
 
 -- 01: "call 3, address outside 0x08..0x77"
+-- call 3, lib.rs: set_address
 abbrev pub setAddress : Program
 setAddress =
     record {
@@ -156,21 +159,27 @@ setAddress =
       final = λ c. success 0 (withAddress (c .driver) (c .a));
     }
 
+-- call 4, lib.rs: start_continuous
 abbrev pub startContinuous : Program
 startContinuous = plain (preparation ++ Instruction.Prepared ∷ Instruction.ReadOscillator ∷ Instruction.WritePeriod ∷ Instruction.WriteMode ∷ [])
 
+-- call 5, lib.rs: stop_continuous
 abbrev pub stopContinuous : Program
 stopContinuous = plain (rows ((0x00, 0x01) ∷ (0xFF, 0x01) ∷ (0x00, 0x00) ∷ (0x91, 0x00) ∷ (0x00, 0x01) ∷ (0xFF, 0x00) ∷ []))
 
+-- call 6, lib.rs: read_range_mm
 abbrev pub readRangeMm : Program
 readRangeMm = ranging (Instruction.ReadStatus ∷ [])
 
+-- call 7, lib.rs: read_range_continuous_millimeters_blocking
 abbrev pub readRangeContinuous : Program
 readRangeContinuous = ranging (Instruction.AwaitStatus ∷ [])
 
+-- call 8, lib.rs: read_range_single_millimeters_blocking
 abbrev pub readRangeSingle : Program
 readRangeSingle = ranging (preparation ++ Instruction.Write 0x80 0x00 ∷ Instruction.Write 0x00 0x01 ∷ Instruction.AwaitStart ∷ Instruction.AwaitStatus ∷ [])
 
+-- call 9, lib.rs: set_measurement_timing_budget
 abbrev pub setBudget : Program
 setBudget =
     record {
@@ -183,6 +192,7 @@ abbrev pub byThresholds : ThresholdCheck → Verdict
 byThresholds ThresholdCheck.Valid = onward
 byThresholds ThresholdCheck.InvalidArgument = stop wrongArgument
 
+-- call 10, lib.rs: set_interrupt_thresholds_mm
 abbrev pub setThresholds : Program
 setThresholds =
     record {
@@ -192,15 +202,18 @@ setThresholds =
     }
 
 -- 01: "low × 65536 + high for call 11"
+-- call 11, lib.rs: get_interrupt_thresholds_mm
 abbrev pub getThresholds : Program
 getThresholds =
     valued
     (Instruction.ReadWord 0x0E timingSlot ∷ Instruction.ReadWord 0x0C (timingSlot + 2) ∷ [])
     (λ c. decodeThreshold (record { 0 = slotWord timingSlot c }) .0 * 65536 + decodeThreshold (record { 0 = slotWord (timingSlot + 2) c }) .0)
 
+-- call 12, lib.rs: set_gpio_config
 abbrev pub setGpioConfig : Program
 setGpioConfig = plain (gpioSteps Instruction.WriteFunction Instruction.WritePolarity)
 
+-- call 13, lib.rs: clear_interrupt_status
 abbrev pub clearInterruptStatus : Program
 clearInterruptStatus = plain clearing
 
@@ -208,17 +221,20 @@ abbrev pub byRate : RateWord → Verdict
 byRate (RateWord.Word w) = onward
 byRate RateWord.Refused = stop declines
 
+-- call 14, lib.rs: set_signal_rate_limit
 abbrev pub setSignalRateLimit : Program
 setSignalRateLimit =
     record { entry = λ c. byRate (signalRateLimitWord (c .a)); steps = Instruction.WriteRate ∷ []; final = finishes (λ c. 0) }
 
+-- call 15, lib.rs: get_measurement_timing_budget
 abbrev pub getBudget : Program
 getBudget = valued budgetReads (λ c. c .own)
 
+-- for codes that are no call
 abbrev pub nothing : Program
 nothing = record { entry = pass; steps = []; final = λ c. failure 0 }
 
--- by code; `new` is call 1 at the address `defaultAddress`
+-- by code; no call has the code 0. `new` is call 1 at the address `defaultAddress`
 unfoldable pub programs : List Program
 programs =
     nothing ∷ withAddressCall ∷ whoAmI ∷ setAddress ∷ startContinuous ∷ stopContinuous ∷ readRangeMm ∷ readRangeContinuous

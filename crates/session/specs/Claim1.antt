@@ -13,7 +13,7 @@ use Rattle.session.specs.Calls.{opsOf, programOf}
 use Rattle.session.specs.Machine.{Session, Outcome, sent, answered, refused, broken, resting, ctxOf, malformed, illFormed}
 use Rattle.session.specs.Records.{Record, call, recordsOf, stepDef}
 use Rattle.session.specs.Refusals.{refusals, firstOf, atOnce, firstAnswer}
-use Rattle.session.specs.History.{Entry, countsOf, Run, stopped, sessionAfter, Genuine, inOrder}
+use Rattle.session.specs.History.{answer, Entry, callsIn, answersIn, repliesIn, transfersIn, refusedIn, Run, sessionAfter, Genuine, inOrder}
 
 -- the transfer that a waiting session has out
 abbrev pub firstOut : List Op → Ctx → Transfer
@@ -75,6 +75,13 @@ pub record Demand1 (s : Session) (r : Record) : Type 0 where
 abbrev pub AtOnce : Session → ℕ → ℕ → ℕ → Type 0
 AtOnce s code a b = firstOf (refusals s (call code a b)) ≡ 0 → answerShown (stepDef s (call code a b)) ≡ firstAnswer (atOnce code a b)
 
+-- neither a refusal nor 15
+abbrev pub Accepts : Outcome → Type 0
+Accepts (sent t s) = Unit {0}
+Accepts (answered x n s) = Unit {0}
+Accepts (refused x s) = ⊥
+Accepts (broken s) = ⊥
+
 -- a data byte that is not zero, past the read length or beside a failure
 pub data Stray (reads f : ℕ) (bs : List ℕ) : Type 0 where
   past-length : f ≡ 0 → (i : ℕ) → reads ≤ i → (byte i bs ≡ 0 → ⊥) → Stray reads f bs
@@ -93,12 +100,27 @@ LeavesNone (answered x n s) = eqb (numberOf x) 0 ≡ false → s .driver ≡ abs
 LeavesNone (refused x s) = Unit {0}
 LeavesNone (broken s) = Unit {0}
 
+-- 01: "14, session as given, counts 0", and "14 and 15 end the list run with the session as given and all counts 0"
+abbrev pub endedAtOnce : Answer → Session → Run
+endedAtOnce x s =
+    record { answer = x; session = s; counts = record { calls = 0; answers = 0; replies = 0; transfers = 0; refused = 0 }; history = [] }
+
+-- 01: "It returns answer 0, the end session and counts of accepted calls, the answers these got, accepted replies, transfers, refused"
+abbrev pub completed : Session → List Entry → Run
+completed s h =
+    record {
+      answer = Answer.Done 0;
+      session = s;
+      counts = record { calls = callsIn h; answers = answersIn h; replies = repliesIn h; transfers = transfersIn h; refused = refusedIn h };
+      history = h;
+    }
+
 -- a slice of records, from any session. 14 for spare bytes; 15 if the session is ill-formed at the start or where a record meets it;
--- else every record has what it gets, and the counts are those of the history
+-- else every record has what it gets
 pub data RunEnds (s : Session) (bytes : List ℕ) : Run → Type 0 where
-  spare-bytes : (length bytes % 8 ≡ 0 → ⊥) → RunEnds s bytes (stopped Answer.SpareBytes s)
-  ill-formed-given : length bytes % 8 ≡ 0 → illFormed s ≡ true → RunEnds s bytes (stopped Answer.IllFormedSession s)
+  spare-bytes : (length bytes % 8 ≡ 0 → ⊥) → RunEnds s bytes (endedAtOnce Answer.SpareBytes s)
+  ill-formed-given : length bytes % 8 ≡ 0 → illFormed s ≡ true → RunEnds s bytes (endedAtOnce Answer.IllFormedSession s)
   ill-formed-met : length bytes % 8 ≡ 0 → (h : List Entry) (r : Record) (rest : List Record) → inOrder h (r ∷ rest) ≡ recordsOf bytes
-      → Genuine s h → illFormed (sessionAfter s h) ≡ true → RunEnds s bytes (stopped Answer.IllFormedSession s)
+      → Genuine s h → illFormed (sessionAfter s h) ≡ true → RunEnds s bytes (endedAtOnce Answer.IllFormedSession s)
   all-run : length bytes % 8 ≡ 0 → illFormed s ≡ false → (h : List Entry) → inOrder h [] ≡ recordsOf bytes → Genuine s h
-      → RunEnds s bytes (record { answer = Answer.Done 0; session = sessionAfter s h; counts = countsOf h; history = h })
+      → RunEnds s bytes (completed (sessionAfter s h) h)

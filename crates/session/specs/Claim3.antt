@@ -1,5 +1,5 @@
--- Demand 3: what holds of every list of records that is run from a fresh session. All of it is read off the bus: from a call's code,
--- the bytes written, the read length, the replies and their order. Exchanges stand newest first.
+-- Demand 3: what holds of every list of records that is run from a fresh session. What it says of the calls is read off the bus:
+-- from a call's code, the bytes written, the read length, the replies and their order. Exchanges stand newest first.
 use mathlib.Core.Path.{_≡_}
 use mathlib.Core.Bool.{Bool, true, false, _||_, _&&_, cond}
 use mathlib.Core.List.{List, [], _∷_}

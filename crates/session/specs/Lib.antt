@@ -18,7 +18,7 @@ pub mod RustBringUp
 pub mod Left
 -- runs and their history
 pub mod History
--- the three demands, and values
+-- the three demands
 pub mod Claim1
 pub mod Claim2
 pub mod Claim3

@@ -1,5 +1,5 @@
 -- 01's table of refusals, in plain numbers: conditions with their answers, and the first that holds decides.
--- Its ranges, limits, lengths and ceilings are written down again here: with the machine it shares only what a session, a record and a stray byte are.
+-- Its ranges, limits, lengths and ceilings are written down again here: with the machine it shares only what a session and a record are.
 use mathlib.Core.Bool.{Bool, true, false, not, _||_, _&&_, cond}
 use mathlib.Core.Option.{Option, some, none}
 use mathlib.Core.List.{List, [], _∷_, _++_}
@@ -77,7 +77,7 @@ lengthRows =
     ∷ (1 ∷ 2 ∷ 2 ∷ 1 ∷ 1 ∷ 1 ∷ [])
     ∷ []
 
--- by code: the ceilingRows transfers
+-- by code: the most transfers
 unfoldable pub ceilingRows : List ℕ
 ceilingRows = 0 ∷ 85688 ∷ 1 ∷ 1 ∷ 10 ∷ 6 ∷ 4 ∷ 10003 ∷ 20011 ∷ 7 ∷ 2 ∷ 2 ∷ 5 ∷ 2 ∷ 1 ∷ 6 ∷ []
 

@@ -12,6 +12,7 @@ use Rattle.session.specs.RustFn.{Chip, Fn, onResult, _>>=_, _>>_, Ok, Er
 use Rattle.session.specs.RustClocks.{or-u8, and-u8, no-interrupt, spad-count, type-is-aperture}
 use Rattle.session.specs.RustCalls.{who-am-i, set-address, set-signal-rate-limit, start-continuous, stop-continuous, clear-interrupt-status, read-range-mm, read-range-continuous-millimeters-blocking, read-range-single-millimeters-blocking, get-measurement-timing-budget, set-measurement-timing-budget, set-interrupt-thresholds-mm, get-interrupt-thresholds-mm, set-gpio-config}
 
+-- lib.rs 216: get_spad_info
 abbrev pub get-spad-info : Fn (ℕ × ℕ)
 get-spad-info = do
   write-byte 0x80 0x01
@@ -39,6 +40,7 @@ get-spad-info = do
   write-byte 0x80 0x00
   Ok (spad-count tmp, type-is-aperture tmp)
 
+-- lib.rs 378: perform_single_ref_calibration
 abbrev pub perform-single-ref-calibration : ℕ → Fn Unit
 perform-single-ref-calibration vhv-init-byte = do
   write-byte SYSRANGE-START (or-u8 0x01 vhv-init-byte)
@@ -53,7 +55,7 @@ enable-ref-spads spad-count spad-type-is-aperture bytes =
     enable-spads spad-count spad-type-is-aperture
     (byte 0 bytes % 256 ∷ byte 1 bytes % 256 ∷ byte 2 bytes % 256 ∷ byte 3 bytes % 256 ∷ byte 4 bytes % 256 ∷ byte 5 bytes % 256 ∷ [])
 
--- `power_on` does nothing, and `io_mode2v8` is always true. 0x3E800000 is 0.25
+-- lib.rs 399, init_hardware: `power_on` does nothing, and `io_mode2v8` is always true. 0x3E800000 is 0.25
 abbrev pub init-hardware : Fn Unit
 init-hardware = do
   ext-sup-hv ← read-register VHV-CONFIG-PAD-SCL-SDA-EXTSUP-HV
@@ -171,6 +173,7 @@ init-hardware = do
   write-byte SYSTEM-SEQUENCE-CONFIG 0xE8
   Ok tt
 
+-- lib.rs 59: with_address
 abbrev pub with-address : Fn Unit
 with-address = do
   wai ← who-am-i

@@ -1,4 +1,5 @@
--- The methods of lib.rs but for the bring-up, function by function, in its names and its order.
+-- The methods of lib.rs but for the bring-up, function by function, in its names. `get_vcsel_pulse_period` stands at its two calls,
+-- a read and `decode_vcsel_period`.
 use mathlib.Core.Bool.{Bool, true, false, not, _||_, cond}
 use mathlib.Core.List.{[], _∷_}
 use Prim.Native.Nat.{ℕ, _+_, _*_, _-_, _%_, _/_, _^_}
@@ -10,9 +11,11 @@ use Rattle.session.specs.Registers.{SYSRANGE-START, WHO-AM-I, SYSTEM-SEQ
 use Rattle.session.specs.RustFn.{Result, ok, err, Fn, _>>=_, _>>_, Ok, Err, try, hand, if, self, set-self-address, set-self-budget, com-write, read-register, read-16bit, write-byte, write-16bit, write-32bit, while-idle}
 use Rattle.session.specs.RustClocks.{or-u8, and-u8, no-interrupt, start-bit, threshold-raw, threshold-mm, limit-contained, limit-word, multiply-period, decode-timeout, encode-timeout, decode-vcsel-period, timeout-mclks-to-microseconds, timeout-microseconds-to-mclks, subtract-if, add-if, plus-one}
 
+-- lib.rs 623: who_am_i
 abbrev pub who-am-i : Fn ℕ
 who-am-i = read-register WHO-AM-I
 
+-- lib.rs 93: set_address
 abbrev pub set-address : ℕ → Fn Unit
 set-address new-address =
     if (ltb new-address 0x08 || ltb 0x77 new-address)
@@ -21,6 +24,7 @@ set-address new-address =
       com-write (I2C-SLAVE-DEVICE-ADDRESS ∷ new-address ∷ [])
       set-self-address new-address)
 
+-- lib.rs 203: set_signal_rate_limit
 abbrev pub set-signal-rate-limit : ℕ → Fn Bool
 set-signal-rate-limit limit =
     if (not (limit-contained limit))
@@ -29,6 +33,7 @@ set-signal-rate-limit limit =
       write-16bit FINAL-RANGE-CONFIG-MIN-COUNT-RATE-RTN-LIMIT (limit-word limit)
       Ok true)
 
+-- lib.rs 260: start_continuous
 abbrev pub start-continuous : ℕ → Fn Unit
 start-continuous period-millis = do
   write-byte 0x80 0x01
@@ -47,6 +52,7 @@ start-continuous period-millis = do
       (write-byte SYSRANGE-START 0x02)
   Ok tt
 
+-- lib.rs 298: stop_continuous
 abbrev pub stop-continuous : Fn Unit
 stop-continuous = do
   write-byte SYSRANGE-START 0x01
@@ -57,6 +63,7 @@ stop-continuous = do
   write-byte 0xFF 0x00
   Ok tt
 
+-- lib.rs 928: clear_interrupt_status
 abbrev pub clear-interrupt-status : Fn Unit
 clear-interrupt-status = do
   write-byte SYSTEM-INTERRUPT-CLEAR 0x01
@@ -68,6 +75,7 @@ match-both (ok res) (ok u) = ok res
 match-both (err e) w = err e
 match-both (ok res) (err e) = err e
 
+-- lib.rs 311: read_range_mm
 abbrev pub read-range-mm : Fn ℕ
 read-range-mm = do
   r ← read-register RESULT-INTERRUPT-STATUS
@@ -78,6 +86,7 @@ read-range-mm = do
         write-err ← try clear-interrupt-status
         hand (match-both range-err write-err))
 
+-- lib.rs 332: read_range_continuous_millimeters_blocking
 abbrev pub read-range-continuous-millimeters-blocking : Fn ℕ
 read-range-continuous-millimeters-blocking = do
   while-idle 10000 RESULT-INTERRUPT-STATUS no-interrupt
@@ -85,6 +94,7 @@ read-range-continuous-millimeters-blocking = do
   clear-interrupt-status
   hand range-err
 
+-- lib.rs 352: read_range_single_millimeters_blocking
 abbrev pub read-range-single-millimeters-blocking : Fn ℕ
 read-range-single-millimeters-blocking = do
   write-byte 0x80 0x01
@@ -120,6 +130,7 @@ enables-of sequence-config =
       final-range = bit-on 7 sequence-config;
     }
 
+-- lib.rs 639: get_sequence_step_enables
 abbrev pub get-sequence-step-enables : Fn Enables
 get-sequence-step-enables = do
   sequence-config ← read-register SYSTEM-SEQUENCE-CONFIG
@@ -133,6 +144,7 @@ pub record Timeouts : Type 0 where
   pub pre-range-microseconds : ℕ
   pub final-range-microseconds : ℕ
 
+-- lib.rs 652: get_sequence_step_timeouts
 abbrev pub get-sequence-step-timeouts : Enables → Fn Timeouts
 get-sequence-step-timeouts enables = do
   pre-range-word ← read-16bit PRE-RANGE-CONFIG-TIMEOUT-MACROP-HI
@@ -182,13 +194,14 @@ use-budget-microseconds enables timeouts =
     let b₃ = cond (enables .pre-range) (b₂ + (timeouts .pre-range-microseconds + 660)) b₂ in
     cond (enables .final-range) (b₃ + 550) b₃
 
+-- lib.rs 693: get_measurement_timing_budget
 unfoldable pub get-measurement-timing-budget : Fn ℕ
 get-measurement-timing-budget = do
   enables ← get-sequence-step-enables
   timeouts ← get-sequence-step-timeouts enables
   Ok (budget-microseconds enables timeouts)
 
--- the final range timeout is computed and written whether or not final range is on
+-- lib.rs 732, set_measurement_timing_budget: the final range timeout is computed and written whether or not final range is on
 unfoldable pub set-measurement-timing-budget : ℕ → Fn Bool
 set-measurement-timing-budget budget-microseconds =
     if (ltb budget-microseconds 20000)
@@ -208,6 +221,7 @@ set-measurement-timing-budget budget-microseconds =
             set-self-budget budget-microseconds
             Ok true))
 
+-- lib.rs 827: set_interrupt_thresholds_mm
 abbrev pub set-interrupt-thresholds-mm : ℕ → ℕ → Fn Unit
 set-interrupt-thresholds-mm low-mm high-mm =
     if (ltb high-mm low-mm)
@@ -219,13 +233,14 @@ set-interrupt-thresholds-mm low-mm high-mm =
       write-16bit SYSTEM-THRESH-HIGH (threshold-raw high-mm)
       Ok tt))
 
+-- lib.rs 854: get_interrupt_thresholds_mm
 abbrev pub get-interrupt-thresholds-mm : Fn (ℕ × ℕ)
 get-interrupt-thresholds-mm = do
   low-raw ← read-16bit SYSTEM-THRESH-LOW
   high-raw ← read-16bit SYSTEM-THRESH-HIGH
   Ok (threshold-mm low-raw, threshold-mm high-raw)
 
--- `!0x10` is 0xEF
+-- lib.rs 892, set_gpio_config: `!0x10` is 0xEF
 abbrev pub set-gpio-config : ℕ → ℕ → Fn Unit
 set-gpio-config func polarity = do
   write-byte SYSTEM-INTERRUPT-CONFIG-GPIO (getD (0x04 ∷ 0x01 ∷ 0x02 ∷ 0x03 ∷ []) func 0)

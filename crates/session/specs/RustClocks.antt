@@ -48,7 +48,7 @@ limit-word bits = toUnsigned 16 (mul binary32 (ofBits binary32 bits) (round bina
 unfoldable pub multiply-period : ℕ → ℕ → Fn ℕ
 multiply-period period osc = if (eqb osc 0) (Ok period) (if (over-u32 (period * osc)) (panic 1) (Ok (period * osc)))
 
--- the low byte of a word shifted left by its high byte, plus 1, in 16 bits
+-- lib.rs 981, decode_timeout: the low byte of a word shifted left by its high byte, plus 1, in 16 bits
 unfoldable pub decode-timeout : ℕ → Fn ℕ
 decode-timeout register-value =
     if (leb 16 (register-value / 256)) (panic 2) (Ok (register-value % 256 * 2 ^ (register-value / 256) % 65536 + 1))
@@ -59,23 +59,25 @@ encode-loop zero ms-byte ls-byte = ms-byte * 256 + ls-byte % 256
 encode-loop (suc n) ms-byte ls-byte =
     elim (ltb 0 (ls-byte / 256)) [ true ↦ encode-loop n (suc ms-byte) (ls-byte / 2) | false ↦ ms-byte * 256 + ls-byte % 256 ]
 
+-- lib.rs 986: encode_timeout
 unfoldable pub encode-timeout : ℕ → ℕ
 encode-timeout timeout-mclks = cond (eqb timeout-mclks 0) 0 (encode-loop 8 0 (timeout-mclks - 1))
 
--- `(register_value + 1) << 1`, on u8
+-- lib.rs 1028, decode_vcsel_period: `(register_value + 1) << 1`, on u8
 unfoldable pub decode-vcsel-period : ℕ → Fn ℕ
 decode-vcsel-period register-value = if (eqb register-value 255) (panic 4) (Ok ((register-value + 1) * 2 % 256))
 
+-- lib.rs 1003: calc_macro_period
 abbrev pub calc-macro-period : ℕ → ℕ
 calc-macro-period vcsel-period-pclks = (2304 * vcsel-period-pclks * 1655 + 500) / 1000
 
--- the product, then the sum
+-- lib.rs 1007, timeout_mclks_to_microseconds: the product, then the sum
 unfoldable pub timeout-mclks-to-microseconds : ℕ → ℕ → Fn ℕ
 timeout-mclks-to-microseconds mclks pclks =
     let macro = calc-macro-period pclks in
     if (over-u32 (mclks * macro) || over-u32 (mclks * macro + macro / 2)) (panic 6) (Ok ((mclks * macro + macro / 2) / 1000))
 
--- the product, the sum, then the division
+-- lib.rs 1017, timeout_microseconds_to_mclks: the product, the sum, then the division
 unfoldable pub timeout-microseconds-to-mclks : ℕ → ℕ → Fn ℕ
 timeout-microseconds-to-mclks microseconds pclks =
     let macro = calc-macro-period pclks in

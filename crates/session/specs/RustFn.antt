@@ -76,27 +76,32 @@ write-read ws n made chip ret =
 abbrev pub com-write : List ℕ → Fn Unit
 com-write ws = write-read ws 0 (λ bs. tt)
 
--- read_register, read_byte
+-- lib.rs 112, read_register: read_register, read_byte
 abbrev pub read-register : ℕ → Fn ℕ
 read-register reg = write-read (reg ∷ []) 1 (λ bs. byte 0 bs)
 
+-- lib.rs 153: read_16bit
 abbrev pub read-16bit : ℕ → Fn ℕ
 read-16bit reg = write-read (reg ∷ []) 2 (λ bs. byte 0 bs * 256 + byte 1 bs)
 
+-- lib.rs 130: read_6bytes
 abbrev pub read-6bytes : ℕ → Fn (List ℕ)
 read-6bytes reg = write-read (reg ∷ []) 6 (λ bs. byte 0 bs ∷ byte 1 bs ∷ byte 2 bs ∷ byte 3 bs ∷ byte 4 bs ∷ byte 5 bs ∷ [])
 
--- write_byte, write_register
+-- lib.rs 159, write_byte: write_byte, write_register
 abbrev pub write-byte : ℕ → ℕ → Fn Unit
 write-byte reg b = write-read (reg ∷ b ∷ []) 1 (λ bs. tt)
 
+-- lib.rs 182: write_16bit
 abbrev pub write-16bit : ℕ → ℕ → Fn Unit
 write-16bit reg word = write-read (reg ∷ word / 256 % 256 ∷ word % 256 ∷ []) 1 (λ bs. tt)
 
+-- lib.rs 190: write_32bit
 abbrev pub write-32bit : ℕ → ℕ → Fn Unit
 write-32bit reg word =
     write-read (reg ∷ word / 16777216 % 256 ∷ word / 65536 % 256 ∷ word / 256 % 256 ∷ word % 256 ∷ []) 1 (λ bs. tt)
 
+-- lib.rs 170: write_6bytes
 abbrev pub write-6bytes : ℕ → List ℕ → Fn Unit
 write-6bytes reg bytes =
     write-read (reg ∷ byte 0 bytes ∷ byte 1 bytes ∷ byte 2 bytes ∷ byte 3 bytes ∷ byte 4 bytes ∷ byte 5 bytes ∷ []) 6 (λ bs. tt)

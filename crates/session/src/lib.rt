@@ -1,4 +1,4 @@
-// What is known of a sensor that is up: its address, its stop byte and its stored budget in
+// lib.rs: the fields of VL53L0x that a call can change. What is known of a sensor that is up: its address, its stop byte and its stored budget in
 // microseconds. All zero while it is not up.
 pub struct Driver {
     pub up: bool,
@@ -25,7 +25,7 @@ pub struct Session {
     pub carried: [u8; 24],
 }
 
-// One transfer: the first `count` bytes of `written` are sent to `address`, then `reads` bytes
+// 01: "an address, 1..7 written bytes and a read length". The first `count` bytes of `written` are sent to `address`, then `reads` bytes
 // are read. The bytes of `written` after them are zero.
 pub struct Transfer {
     pub address: u8,
@@ -34,7 +34,7 @@ pub struct Transfer {
     pub reads: u8,
 }
 
-// The numbered answers, 0 to 15. The first nine end a call, the others refuse a record or a list.
+// 01's numbered answers, 0 to 15, in the names of lib.rs's Error where it has one. The first nine end a call, the others refuse a record or a list.
 pub enum Answer {
     Done(u32),
     False,
@@ -57,7 +57,7 @@ pub enum Answer {
 // One step of a call: a transfer and what is done with its reply. Registers, bytes and slots of
 // the carried bytes are numbers.
 pub enum Instruction {
-    // No step.
+    // No step: what a table gives past its end.
     Nowhere,
     // Write a byte to a register.
     Write(u8, u8),
@@ -96,8 +96,8 @@ pub enum Instruction {
     ReadTiming(u8, u8),
     // The last budget read before a new final range word is written.
     ReadLast(u8),
-    // Restore the sequence steps; skip the setting of a budget that is too short.
-    RestoreSteps,
+    // Write the sequence steps; skip the setting of a budget that is too short.
+    WriteSteps,
     // Write the final range word.
     WriteWord(u8),
     // One read of a wait.
