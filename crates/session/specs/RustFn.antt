@@ -76,7 +76,7 @@ write-read ws n made chip ret =
 abbrev pub com-write : List ℕ → Fn Unit
 com-write ws = write-read ws 0 (λ bs. tt)
 
--- lib.rs 112, read_register: read_register, read_byte
+-- lib.rs 112 and 121: read_register, read_byte
 abbrev pub read-register : ℕ → Fn ℕ
 read-register reg = write-read (reg ∷ []) 1 (λ bs. byte 0 bs)
 
@@ -88,7 +88,7 @@ read-16bit reg = write-read (reg ∷ []) 2 (λ bs. byte 0 bs * 256 + byte 1 bs)
 abbrev pub read-6bytes : ℕ → Fn (List ℕ)
 read-6bytes reg = write-read (reg ∷ []) 6 (λ bs. byte 0 bs ∷ byte 1 bs ∷ byte 2 bs ∷ byte 3 bs ∷ byte 4 bs ∷ byte 5 bs ∷ [])
 
--- lib.rs 159, write_byte: write_byte, write_register
+-- lib.rs 159 and 164: write_byte, write_register
 abbrev pub write-byte : ℕ → ℕ → Fn Unit
 write-byte reg b = write-read (reg ∷ b ∷ []) 1 (λ bs. tt)
 
