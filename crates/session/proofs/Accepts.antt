@@ -3,7 +3,6 @@ use mathlib.Core.Path.{_≡_, refl}
 use mathlib.Core.Bool.{not}
 use mathlib.Core.List.{List, [], _∷_}
 use Prim.Native.Nat.{ℕ, suc}
-use native.Mathlib.Omega.{arith}
 use lib.Dec.{ltb}
 use lib.ListN.{drop}
 use Rattle.session.specs.Bus.{Driver, Transfer, Answer, Reply, bad, good, waitLimit, idleOn}
@@ -11,7 +10,7 @@ use Rattle.session.specs.Instructions.{Ctx, Verdict, onward, leap, stop,
 use Rattle.session.specs.Calls.{Program, opsOf, programOf}
 use Rattle.session.specs.Machine.{Session, Outcome, sent, answered, resting, ctxOf, keptOf, giving, conclude, enter, arrive, decide, react, toReply, stray, onOps, waitsNow, illFormed, replyDef}
 use Rattle.session.specs.Claim1.{Accepts, LeavesNone}
-use Rattle.session.proofs.Facts.{cond-case}
+use Rattle.session.proofs.Facts.{cond-case, clash}
 
 -- a property of what a call gives, for every session of the call
 module _ (P : Outcome → Type 0) (code : ℕ)
@@ -65,5 +64,5 @@ bring-up-leaves-none s f bs e =
     go [] = tt
     go (op ∷ l) =
         cond-case LeavesNone (stray (sendOf op (ctxOf s)) f bs) (λ h. tt)
-        (λ h. react-all LeavesNone 1 (λ t x. tt) (λ v n d q. let z : _≡_ {A = ℕ} 0 1 = cc in absurd (omega arith))
+        (λ h. react-all LeavesNone 1 (λ t x. tt) (λ v n d q. clash cc)
         (λ y x q z. rw q) op (programOf (s .code)) s (toReply f bs) e)

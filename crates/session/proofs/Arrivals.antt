@@ -13,9 +13,8 @@ use Rattle.session.specs.Calls.{opsOf, programOf}
 use Rattle.session.specs.Machine.{Session, Outcome, sent, answered, refused, broken, resting, heldBy, ctxOf, sending, giving, conclude, enter, arrive, decide}
 use Rattle.session.specs.History.{Exchange, Standing, waiting, ended, CallRun}
 use Rattle.session.specs.Claim3.{limitIn, idleReads, rangeFailure, Failures, budgetOfFirst, afterDone, Lawful, floorIn}
-use Rattle.session.proofs.Facts.{cond-case, untrue}
-use Rattle.session.proofs.Good.{limit-positive, Good, Between, arrive-good, wait-left}
-use Rattle.session.proofs.Bisim.{between-skip}
+use Rattle.session.proofs.Facts.{cond-case, untrue, clash}
+use Rattle.session.proofs.Good.{limit-positive, Good, Between, arrive-good, wait-left, between-skip}
 use Rattle.session.proofs.Laws.{FinalOk, final-law}
 use Rattle.session.proofs.Phase.{AllGood, Phase, clean, tidy0, tidy1, tidy2, good-any, phase-cleared, phase-waiting}
 use Rattle.session.proofs.Own.{claim-ceiling, limit-is}
@@ -168,8 +167,8 @@ module _ (s : Session) (k : ℕ) (ex : List Exchange) (d : Driver) (m : Mid s k 
 pub end-fine : (s : Session) (k : ℕ) (ex : List Exchange) (d : Driver) → Mid s k ex d → ((t : Track) → Sound t (s .code) → Traced t (s .carried) [] ex)
     → (Owns (s .code) → Owned (s .own) (s .carried) [] ex) → floorIn (s .code) ≤ length ex → Phase (s .code) [] ex → Fine (s .code) (s .a) (s .b) ex d (conclude (programOf (s .code) .final (ctxOf s)) s)
 end-fine s k ex d m tr ow fl (clean g) = clean-end s k ex d m tr ow fl g (programOf (s .code) .final (ctxOf s)) (final-law (s .code) (ctxOf s))
-end-fine s k ex d m tr ow fl (tidy0 r adr e q g) = let z : _≡_ {A = ℕ} 0 1 = cc in absurd (omega arith)
-end-fine s k ex d m tr ow fl (tidy1 r adr e adr′ bs q g) = let z : _≡_ {A = ℕ} 0 1 = cc in absurd (omega arith)
+end-fine s k ex d m tr ow fl (tidy0 r adr e q g) = clash cc
+end-fine s k ex d m tr ow fl (tidy1 r adr e adr′ bs q g) = clash cc
 end-fine s k ex d m tr ow fl (tidy2 {ex = ex′} r adr e adr′ bs adr″ bs′ q g) =
     let h : s .failed ≡ suc e = m .failed ∙ ap (λ b. cond b (suc e) (rangeFailure (s .code) ex′)) (r .inside) in
     rw (r .final (ctxOf s) e h)

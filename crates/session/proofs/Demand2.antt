@@ -4,17 +4,20 @@ use mathlib.Core.Bool.{true, false}
 use mathlib.Core.List.{List}
 use Prim.Native.Nat.{ℕ}
 use native.Mathlib.Omega.{arith}
-use Rattle.session.specs.Records.{stepDef, call}
 use Rattle.session.specs.Bus.{Driver}
 use Rattle.session.specs.Instructions.{Ctx}
 use Rattle.session.specs.Calls.{opsOf, programOf, argumentsOk}
 use Rattle.session.specs.Machine.{Session, ctxOf, decide, begun, notUp, beginDef}
+use Rattle.session.specs.Records.{stepDef}
 use Rattle.session.specs.Script.{Raw, play}
 use Rattle.session.specs.RustBringUp.{rust}
-use Rattle.session.specs.Claim2.{drive, Accepted, Demand2}
+use Rattle.session.specs.Left.{decideS, resume}
+use Rattle.session.specs.Claim2.{Accepted, drive, Demand2}
 use Rattle.session.proofs.Table.{AllBelow, by-code}
+use Rattle.session.proofs.Good.{begun-marked, decide-goes}
 use Rattle.session.proofs.AcceptedIff.{range-is, ready-ok}
-use Rattle.session.proofs.Bisim.{begun-marked, decide-same, bisim}
+use Rattle.session.proofs.OneStep.{alike, decides-stands}
+use Rattle.session.proofs.EveryList.{stands-same, every-list}
 use Rattle.session.proofs.Tests.{verdict-same}
 use Rattle.session.proofs.Eager.{made-once}
 use Rattle.session.proofs.Same.{script, same-1, same-2, same-3, same-4, same-5, same-6, same-7, same-8, same-9, same-10, same-11, same-12, same-13, same-14, same-15}
@@ -23,9 +26,11 @@ use Rattle.session.proofs.Same.{script, same-1, same-2, same-3, same-4,
 pub begin-same : (rs : List Raw) (s : Session) (code a b : ℕ) → argumentsOk code a b ≡ true → notUp code (s .driver .up) ≡ false
     → drive rs (decide (programOf code .entry (ctxOf (begun s code a b))) (programOf code) 0 0 (begun s code a b)) ≡ play (script code (ctxOf (begun s code a b))) rs
 begin-same rs s code a b h u =
-    let c : Ctx = ctxOf (begun s code a b) in
-    decide-same rs (bisim rs) (programOf code .entry c) (begun s code a b) 0 0 (opsOf (programOf code))
-    (record { args = h; marked = begun-marked s code a b u; bound = omega arith }) refl
+    let t : Session = begun s code a b in
+    let c : Ctx = ctxOf t in
+    stands-same rs (every-list rs) t (decide (programOf code .entry c) (programOf code) 0 0 t) (decideS (programOf code .entry c) 0 c (λ n. resume (programOf code .final) n (opsOf (programOf code)) c))
+    (decides-stands t (programOf code .entry c) 0 0 t (opsOf (programOf code)) (alike t) refl)
+    (decide-goes (programOf code .entry c) t 0 0 (record { args = h; marked = begun-marked s code a b u; bound = omega arith }))
     ∙ ap (λ x. play x rs) (verdict-same (programOf code .entry c) 0 c _ _ (made-once code c) (made-once code c))
 
 each : (s : Session) (a b : ℕ) → AllBelow (λ n. script n (ctxOf (begun s n a b)) ≡ rust (s .driver) n a b) 1 15

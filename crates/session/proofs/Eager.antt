@@ -14,7 +14,7 @@ use Rattle.session.specs.Instructions.{Instruction, Ctx, Op, write, read
 use Rattle.session.specs.Steps.{slot, byWord, budgetToSet, wordToSet, noTime, overLast, timingLength, opOf}
 use Rattle.session.specs.Calls.{Program, opsOf, tuning, programs, programOf}
 use Rattle.session.specs.Script.{Script, done, send, onReply, waitLoop}
-use Rattle.session.proofs.Facts.{both}
+use Rattle.session.proofs.Facts.{both, clash}
 use Rattle.session.proofs.Table.{of-table}
 use Rattle.session.specs.Left.{keeping, failS, resume}
 use Rattle.session.proofs.Once.{Kind, timing, last, other, kindOf, onceBy, onceOf}
@@ -97,8 +97,8 @@ plain-same (i ∷ is) h =
     ap (λ o. o ∷ map opOf is) (one (kindOf i) (q .0)) ∙ ap (λ l. onceOf i ∷ l) (plain-same is (q .1))
   where
     one : {i : Instruction} (x : Kind i) → isOther x ≡ true → opOf i ≡ onceBy x
-    one (timing n k) q = let z : _≡_ {A = ℕ} 0 1 = cc in absurd (omega arith)
-    one (last k) q = let z : _≡_ {A = ℕ} 0 1 = cc in absurd (omega arith)
+    one (timing n k) q = clash cc
+    one (last k) q = clash cc
     one other q = refl
 
 send-same : (t : Transfer) (fail : ℕ → Script) {g g′ : List ℕ → Script} → ((bs : List ℕ) → g bs ≡ g′ bs)
@@ -147,7 +147,7 @@ module _ (fin : Ctx → Final) where
   step-same : {i : Instruction} (x : Kind i) (is : List Instruction) (m j : ℕ) (c : Ctx) → fits m j x is ≡ true → Clear m j c
       → ((c′ : Ctx) → Clear (repliesBy x) (slotBy x) c′ → Same is c′)
       → resume fin zero (opOf i ∷ map opOf is) c ≡ resume fin zero (onceBy x ∷ map onceOf is) c
-  step-same (timing zero k) is m j c h p s = let z : _≡_ {A = ℕ} 0 1 = cc in absurd (omega arith)
+  step-same (timing zero k) is m j c h p s = clash cc
   step-same (timing (suc n) k) is m j c h p s =
       send-same _ _
       (λ bs.

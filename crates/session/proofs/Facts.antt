@@ -38,6 +38,10 @@ pub both : (a b : Bool) → a && b ≡ true → (a ≡ true) × (b ≡ true)
 both true b h = (refl, h)
 both false b h = (h, cc)
 
+-- no case: 0 is not 1
+pub clash : {A : Type 0} → _≡_ {A = ℕ} 0 1 → A
+clash h = absurd (omega arith)
+
 -- a test cannot be true and false
 pub untrue : {A : Type 0} → false ≡ true → A
-untrue h = let z : _≡_ {A = ℕ} 0 1 = cc in absurd (omega arith)
+untrue h = clash cc

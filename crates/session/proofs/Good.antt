@@ -1,20 +1,20 @@
 -- A waiting session that a run leaves is not ill-formed, and its transfers stay below the ceiling.
 use mathlib.Core.Path.{_≡_, refl}
-use mathlib.Core.Bool.{true, false}
+use mathlib.Core.Bool.{true, false, Bool, not}
 use mathlib.Core.List.{List, [], _∷_}
 use Prim.Native.Nat.{ℕ, zero, suc, _+_, _-_, _≤_, _<_, zero-le}
 use native.Mathlib.Nat.{le-refl}
 use native.Mathlib.Omega.{arith}
 use native.Mathlib.Bridge.{le-by-compare, IsLe}
-use lib.Dec.{eqb}
+use lib.Dec.{eqb, ltb}
 use lib.ListN.{drop}
-use borrow.Author.Tests.{lt-leb, le-ltb, ne-eqb, leb-false}
-use Rattle.session.specs.Bus.{Condition, detectorReady, statusReady, started, waitLimit}
-use Rattle.session.specs.Instructions.{Op, write, read, wait, range, costOf, worst}
-use Rattle.session.specs.Steps.{slot}
+use borrow.Author.Tests.{lt-leb, le-ltb, ne-eqb, leb-false, ltb-true}
+use lib.Seq.{drop-drop}
+use Rattle.session.specs.Bus.{Transfer, Reply, bad, good, Condition, detectorReady, statusReady, started, waitLimit, idleOn}
+use Rattle.session.specs.Instructions.{Verdict, onward, leap, stop, test, Op, write, read, wait, range, Final, success, failure, sendOf, costOf, worst}
 use Rattle.session.specs.Calls.{Program, opsOf, tuning, programs, programOf, ceilings, ceilingOf, argumentsOk}
-use Rattle.session.specs.Machine.{Session, sending, idleWrong, upWrong, malformed}
-use Rattle.session.proofs.Facts.{or-false, not-of-true}
+use Rattle.session.specs.Machine.{Session, Outcome, sent, answered, refused, broken, ctxOf, keptOf, sending, conclude, enter, arrive, decide, react, idleWrong, upWrong, malformed, begun, notUp}
+use Rattle.session.proofs.Facts.{cond-case, or-false, not-of-true, drop-next}
 use Rattle.session.proofs.Table.{of-table, code-nonzero}
 
 -- a wait reads at least once
@@ -98,3 +98,92 @@ worst-drop code (suc n) (op ∷ l) = omega (arith, worst-drop code n l)
 
 pub wait-left : (s : Session) (w : Condition) (rest : List Op) → Good s (wait w) rest → s .idle < waitLimit (s .code) w
 wait-left s w rest g = leb-false (waitLimit (s .code) w) (s .idle) (g .quiet)
+
+pub between-skip : (s : Session) (k n : ℕ) → Between s k → Between s (k + n)
+between-skip s k n b =
+    record {
+      args = b .args;
+      marked = b .marked;
+      bound = rw (← (drop-drop n k (opsOf (programOf (s .code))))) (omega (arith, b .bound, worst-drop (s .code) n (drop k (opsOf (programOf (s .code))))));
+    }
+
+-- after an operation that is no idle read
+pub between-next : (s : Session) (op : Op) (rest : List Op) → Good s op rest → Between s (suc (s .step))
+between-next s op rest g =
+    record {
+      args = g .args;
+      marked = g .marked;
+      bound = rw (drop-next (s .step) (opsOf (programOf (s .code))) (g .at)) (omega (arith, g .bound));
+    }
+
+pub between-kept : (s : Session) (op : Op) (rest : List Op) (op′ : Op) (r : Reply) → Good s op rest → Between (keptOf s op′ r) (suc (s .step))
+between-kept s op rest op′ r g =
+    let b : Between s (suc (s .step)) = between-next s op rest g in
+    record { args = b .args; marked = b .marked; bound = b .bound }
+
+pub begun-marked : (s : Session) (code a b : ℕ) → notUp code (s .driver .up) ≡ false → upWrong code (begun s code a b .driver .up) ≡ false
+begun-marked s code a b h = go (eqb code 1) refl
+  where
+    go : (t : Bool) → eqb code 1 ≡ t → upWrong code (begun s code a b .driver .up) ≡ false
+    go true e = rw e
+    go false e = rw e (rw e at h)
+
+-- one idle read more
+pub idle-more : (s : Session) (w : Condition) (rest : List Op) → Good s (wait w) rest → suc (s .idle) < waitLimit (s .code) w → Good (sending (s .step) (suc (s .idle)) s) (wait w) rest
+idle-more s w rest g h =
+    record {
+      args = g .args;
+      marked = g .marked;
+      at = g .at;
+      quiet = lt-leb (waitLimit (s .code) w) (suc (s .idle)) h;
+      some = omega arith;
+      bound = omega (arith, g .bound);
+    }
+
+-- a call that goes on from a sound waiting session waits in one
+pub record StillGood (t : Transfer) (s : Session) : Type 0 where
+  pub op : Op
+  pub rest : List Op
+  pub good : Good s op rest
+  pub is : t ≡ sendOf op (ctxOf s)
+
+abbrev pub GoodOut : Outcome → Type 0
+GoodOut (sent t s) = StillGood t s
+GoodOut (answered x n s) = Unit {0}
+GoodOut (refused x s) = Unit {0}
+GoodOut (broken s) = Unit {0}
+
+conclude-goes : (f : Final) (s : Session) → GoodOut (conclude f s)
+conclude-goes (success v d) s = tt
+conclude-goes (failure e) s = tt
+
+arrive-goes : (s : Session) (k : ℕ) → Between s k → GoodOut (arrive (programOf (s .code)) k s)
+unfolding arrive
+arrive-goes s k n = go (drop k (opsOf (programOf (s .code)))) refl
+  where
+    go : (l : List Op) → drop k (opsOf (programOf (s .code))) ≡ l → GoodOut (enter (programOf (s .code) .final) l k s)
+    go [] e = conclude-goes (programOf (s .code) .final (ctxOf s)) s
+    go (op ∷ rest) e = record { op = op; rest = rest; good = arrive-good s k op rest n e; is = refl }
+
+pub decide-goes : (v : Verdict) (s : Session) (over k : ℕ) → Between s k → GoodOut (decide v (programOf (s .code)) over k s)
+decide-goes onward s over k b = arrive-goes s k b
+decide-goes leap s over k b = arrive-goes s (k + over) (between-skip s k over b)
+decide-goes (stop x) s over k b = tt
+decide-goes (test t v w) s over k b = cond-case GoodOut t (λ e. decide-goes v s over k b) (λ e. decide-goes w s over k b)
+
+pub react-goes : (s : Session) (op : Op) (rest : List Op) (r : Reply) → Good s op rest → GoodOut (react op (programOf (s .code)) s r)
+react-goes s (write reg bytes len over after) rest (bad e) g = tt
+react-goes s (write reg bytes len over after) rest (good bs) g = decide-goes (after (ctxOf s)) s over (suc (s .step)) (between-next s (write reg bytes len over after) rest g)
+react-goes s (read reg len slot over after) rest (bad e) g = tt
+react-goes s (read reg len slot over after) rest (good bs) g =
+    let op : Op = read reg len slot over after in
+    decide-goes (after (ctxOf (keptOf s op (good bs)))) (keptOf s op (good bs)) over (suc (s .step)) (between-kept s op rest op (good bs) g)
+react-goes s (wait w) rest (bad e) g = tt
+react-goes s (wait w) rest (good bs) g =
+    cond-case GoodOut (idleOn w bs)
+    (λ h. cond-case GoodOut (ltb (suc (s .idle)) (waitLimit (s .code) w))
+    (λ lt. record { op = wait w; rest = rest; good = idle-more s w rest g (ltb-true (suc (s .idle)) (waitLimit (s .code) w) lt); is = refl })
+    (λ ge. tt))
+    (λ h. arrive-goes s (suc (s .step)) (between-next s (wait w) rest g))
+react-goes s range rest (bad e) g = arrive-goes (keptOf s range (bad e)) (suc (s .step)) (between-kept s range rest range (bad e) g)
+react-goes s range rest (good bs) g = arrive-goes (keptOf s range (good bs)) (suc (s .step)) (between-kept s range rest range (good bs) g)

@@ -15,8 +15,7 @@ use Rattle.session.specs.Records.{Record, call, reply, other, stepDef}
 use Rattle.session.specs.History.{Got, transfer, answer, refusal, isTransfer, isRefused, isAcceptedCall, isAcceptedReply, Exchange, by, waiting, ended, CallRun, joined, waitingIn, transfersOf}
 use Rattle.session.specs.Claim3.{isUp, BegunUp, All, Lawful, sumOf, repliesOf}
 use Rattle.session.proofs.Facts.{cond-case, untrue}
-use Rattle.session.proofs.Good.{code-test, good-sound}
-use Rattle.session.proofs.Bisim.{begun-marked}
+use Rattle.session.proofs.Good.{code-test, good-sound, begun-marked}
 use Rattle.session.proofs.Phase.{clean}
 use Rattle.session.proofs.Up.{fieldsOf, up-is, begun-while-up, afterBegun}
 use Rattle.session.proofs.Shape.{firstOk, opens-law, known-at}

@@ -11,6 +11,7 @@ use Rattle.session.specs.Bus.{Driver, withAddress, withBudget}
 use Rattle.session.specs.Instructions.{Ctx, Op, write, read, wait, range, Final, success, failure}
 use Rattle.session.specs.Steps.{slot, opOf}
 use Rattle.session.specs.Calls.{Program, opsOf, clearing, tuning, broughtUp, byCode, programs, programOf}
+use Rattle.session.proofs.Facts.{clash}
 use Rattle.session.proofs.Table.{of-table}
 
 abbrev pub clearOps : List Op
@@ -38,22 +39,22 @@ range-law =
 
 -- at any position
 pub range-at : (fin : Ctx → Final) (k : ℕ) (l : List Op) {rest : List Op} → RangeLaw fin l → drop k l ≡ range ∷ rest → Tidies fin rest
-range-at fin zero [] h e = let z : _≡_ {A = ℕ} 0 1 = cc in absurd (omega arith)
-range-at fin zero (write reg bytes len over after ∷ l) h e = let z : _≡_ {A = ℕ} 0 1 = cc in absurd (omega arith)
-range-at fin zero (read reg len slot over after ∷ l) h e = let z : _≡_ {A = ℕ} 0 1 = cc in absurd (omega arith)
-range-at fin zero (wait w ∷ l) h e = let z : _≡_ {A = ℕ} 0 1 = cc in absurd (omega arith)
+range-at fin zero [] h e = clash cc
+range-at fin zero (write reg bytes len over after ∷ l) h e = clash cc
+range-at fin zero (read reg len slot over after ∷ l) h e = clash cc
+range-at fin zero (wait w ∷ l) h e = clash cc
 range-at fin zero (range ∷ l) {rest} h e = let q : l ≡ rest = cc in subst (Tidies fin) q h
-range-at fin (suc k) [] h e = let z : _≡_ {A = ℕ} 0 1 = cc in absurd (omega arith)
+range-at fin (suc k) [] h e = clash cc
 range-at fin (suc k) (write reg bytes len over after ∷ l) h e = range-at fin k l h e
 range-at fin (suc k) (read reg len slot over after ∷ l) h e = range-at fin k l h e
 range-at fin (suc k) (wait w ∷ l) h e = range-at fin k l h e
 range-at fin (suc k) (range ∷ l) {rest} h e = tail-free k (rw (h .0) at e)
   where
     tail-free : (j : ℕ) → drop j clearOps ≡ range ∷ rest → Tidies fin rest
-    tail-free zero e′ = let z : _≡_ {A = ℕ} 0 1 = cc in absurd (omega arith)
-    tail-free (suc zero) e′ = let z : _≡_ {A = ℕ} 0 1 = cc in absurd (omega arith)
-    tail-free (suc (suc zero)) e′ = let z : _≡_ {A = ℕ} 0 1 = cc in absurd (omega arith)
-    tail-free (suc (suc (suc j))) e′ = let z : _≡_ {A = ℕ} 0 1 = cc in absurd (omega arith)
+    tail-free zero e′ = clash cc
+    tail-free (suc zero) e′ = clash cc
+    tail-free (suc (suc zero)) e′ = clash cc
+    tail-free (suc (suc (suc j))) e′ = clash cc
 
 -- the fields that a call leaves in success, from the bytes that it carries, and call 15's value
 abbrev pub leaves : ℕ → ℕ → List ℕ → ℕ → Driver → Driver

@@ -16,8 +16,9 @@ pub mod AtOnce
 pub mod Ill
 pub mod Runs
 -- demand 2: the machine is the script of its instructions
-pub mod Bisim
+pub mod Scripts
 pub mod OneStep
+pub mod EveryList
 pub mod Once
 pub mod Tests
 pub mod Later

@@ -21,17 +21,17 @@ use Rattle.session.proofs.Facts.{drop-next, untrue}
 use Rattle.session.proofs.Cut.{stray-is, react-cut}
 use Rattle.session.proofs.Strays.{sound-step}
 use Rattle.session.proofs.AcceptedIff.{range-is, ready-ok}
-use Rattle.session.proofs.Bisim.{resume-first, resume-skip}
+use Rattle.session.proofs.Scripts.{resume-first, resume-skip}
 
 -- the same call with as many transfers
-record Alike (s t : Session) : Type 0 where
+pub record Alike (s t : Session) : Type 0 where
   driver : t .driver ≡ s .driver
   code : t .code ≡ s .code
   a : t .a ≡ s .a
   b : t .b ≡ s .b
   transfers : t .transfers ≡ s .transfers
 
-alike : (s : Session) → Alike s s
+pub alike : (s : Session) → Alike s s
 alike s = record { driver = refl; code = refl; a = refl; b = refl; transfers = refl }
 
 one-more : (s t : Session) (k i : ℕ) → Alike s t → OneMore s (sending k i t)
@@ -62,7 +62,7 @@ module _ (s : Session) where
   branch true o o′ x x′ p q = p
   branch false o o′ x x′ p q = q
 
-  decides-stands : (v : Verdict) (over k : ℕ) (t : Session) (rest : List Op) → Alike s t → drop k (opsOf (programOf (t .code))) ≡ rest
+  pub decides-stands : (v : Verdict) (over k : ℕ) (t : Session) (rest : List Op) → Alike s t → drop k (opsOf (programOf (t .code))) ≡ rest
       → StandsAt s (decide v (programOf (t .code)) over k t) (decideS v over (ctxOf t) (λ n. resume (programOf (t .code) .final) n rest (ctxOf t)))
   decides-stands onward over k t rest q e =
       subst (λ l. StandsAt s (arrive (programOf (t .code)) k t) (resume (programOf (t .code) .final) zero l (ctxOf t))) e (arrives-stands k t q)
@@ -121,7 +121,7 @@ module _ (s : Session) where
   wait-stands w rest (bad k) (suc m) at e h = gives-stands (Answer.BusError (suc k)) s (alike s)
   wait-stands w rest (good bs) (suc m) at e h = waits-stands w rest bs m at e
 
-  reacts-stands : (op : Op) (rest : List Op) (r : Reply) → drop (s .step) (opsOf (programOf (s .code))) ≡ op ∷ rest → idleWrong (s .code) (op ∷ rest) (s .idle) ≡ false
+  pub reacts-stands : (op : Op) (rest : List Op) (r : Reply) → drop (s .step) (opsOf (programOf (s .code))) ≡ op ∷ rest → idleWrong (s .code) (op ∷ rest) (s .idle) ≡ false
       → StandsAt s (react op (programOf (s .code)) s r) (hears (resumeIn (programOf (s .code) .final) (s .idle) op rest (ctxOf s)) r)
   reacts-stands (write reg bytes len over after) rest (bad e) at h = gives-stands (Answer.BusError (reportOf (readWins (s .code)) (s .failed) (suc e))) s (alike s)
   reacts-stands (write reg bytes len over after) rest (good bs) at h =

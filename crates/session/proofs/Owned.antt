@@ -16,7 +16,7 @@ use Rattle.session.specs.Instructions.{Ctx, Op, write, read, wait, range
 use Rattle.session.specs.Calls.{opsOf, programOf}
 use Rattle.session.specs.History.{Exchange, by}
 use Rattle.session.specs.Claim3.{wasRead}
-use Rattle.session.proofs.Facts.{both}
+use Rattle.session.proofs.Facts.{both, clash}
 use Rattle.session.proofs.Shape.{asksOp, full, leaps, one-byte}
 use Rattle.session.proofs.Trace.{Track, misses, untouched, GoesOn}
 
@@ -103,7 +103,7 @@ own-step op rest c r l own ex f g d =
         let m : misses bytes8 op ≡ true = rw e at (first-of (wasRead 0x70 ex) op rest (d .law)) in
         own-kept op r l own m ∙ d .is e ∙ sym (budget-same l (keptBytes op r l) (untouched bytes8 op r l m))
     go false true e q h = own-found op r l own g (rw (e, q) at (first-of (wasRead 0x70 ex) op rest (d .law)))
-    go false false e q h = let z : _≡_ {A = ℕ} 0 1 = cc in absurd (omega arith)
+    go false false e q h = clash cc
 
 pub own-again : (own : ℕ) (l : List ℕ) (w : Condition) (rest : List Op) (c : Ctx) (r : Reply) (ex : List Exchange)
     → Owned own l (wait w ∷ rest) ex → Owned own l (wait w ∷ rest) (by (sendOf (wait w) c) r ∷ ex)
@@ -111,8 +111,8 @@ own-again own l w rest c r ex d = go (wasRead 0x70 ex) (asksOp 0x70 (wait w)) re
   where
     go : (b a : Bool) → wasRead 0x70 ex ≡ b → asksOp 0x70 (wait w) ≡ a → Owned own l (wait w ∷ rest) (by (sendOf (wait w) c) r ∷ ex)
     go true a e q = record { law = rw e (rw e at (d .law)); is = λ h. d .is e }
-    go false true e q = let y : false ≡ true = rw (e, q) at (first-of (wasRead 0x70 ex) (wait w) rest (d .law)) in let z : _≡_ {A = ℕ} 0 1 = cc in absurd (omega arith)
-    go false false e q = record { law = rw (e, q) (rw (e, q) at (d .law)); is = λ h. let y : false ≡ true = rw (e, q) at h in let z : _≡_ {A = ℕ} 0 1 = cc in absurd (omega arith) }
+    go false true e q = let y : false ≡ true = rw (e, q) at (first-of (wasRead 0x70 ex) (wait w) rest (d .law)) in clash cc
+    go false false e q = record { law = rw (e, q) (rw (e, q) at (d .law)); is = λ h. let y : false ≡ true = rw (e, q) at h in clash cc }
 
 own-drop : (n : ℕ) (ops : List Op) → ownOk true ops ≡ true → ownOk true (drop n ops) ≡ true
 own-drop zero ops h = h

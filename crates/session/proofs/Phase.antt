@@ -3,7 +3,6 @@ use mathlib.Core.Path.{_≡_, refl, sym, subst}
 use mathlib.Core.Bool.{true, _||_}
 use mathlib.Core.List.{List, [], _∷_}
 use Prim.Native.Nat.{ℕ, suc}
-use native.Mathlib.Omega.{arith}
 use lib.Dec.{eqb}
 use Rattle.session.specs.Bus.{Transfer, Answer, transferOf, Reply, bad, good}
 use Rattle.session.specs.Instructions.{Instruction, Ctx, Verdict, Op, write, read, wait, range, failure, sendOf}
@@ -11,6 +10,7 @@ use Rattle.session.specs.Steps.{slot, pass, opOf}
 use Rattle.session.specs.Calls.{programOf}
 use Rattle.session.specs.History.{Exchange, by, Standing, waiting, ended}
 use Rattle.session.specs.Claim3.{rangeFailure, reported, first-out, first-failed, second-out, second-failed, both-good, AfterReply, Failures}
+use Rattle.session.proofs.Facts.{clash}
 use Rattle.session.proofs.Laws.{clearOps}
 
 abbrev pub IsGood : Reply → Type 0
@@ -65,7 +65,7 @@ phase-waiting code op rest ex c (tidy0 {ex = ex′} r adr e q g) =
     let h : op ≡ clearOp 1 = cc in rw (h, r .inside) (first-out _ refl, good-any code _ ex′ _ g)
 phase-waiting code op rest ex c (tidy1 {ex = ex′} r adr e adr′ bs q g) =
     let h : op ≡ clearOp 0 = cc in rw (h, r .inside) (tt, (second-out _ bs _ refl refl, good-any code _ ex′ _ g))
-phase-waiting code op rest ex c (tidy2 r adr e adr′ bs adr″ bs′ q g) = let z : _≡_ {A = ℕ} 0 1 = cc in absurd (omega arith)
+phase-waiting code op rest ex c (tidy2 r adr e adr′ bs adr″ bs′ q g) = clash cc
 
 -- that operation fails
 pub phase-failed : (code : ℕ) (op : Op) (rest : List Op) (ex : List Exchange) (c : Ctx) (k n : ℕ) → Phase code (op ∷ rest) ex
@@ -75,7 +75,7 @@ phase-failed code op rest ex c k n (tidy0 {ex = ex′} r adr e q g) =
     let h : op ≡ clearOp 1 = cc in rw (h, r .inside) (first-failed _ k n refl, good-any code _ ex′ _ g)
 phase-failed code op rest ex c k n (tidy1 {ex = ex′} r adr e adr′ bs q g) =
     let h : op ≡ clearOp 0 = cc in rw (h, r .inside) (tt, (second-failed _ bs _ k n refl refl, good-any code _ ex′ _ g))
-phase-failed code op rest ex c k n (tidy2 r adr e adr′ bs adr″ bs′ q g) = let z : _≡_ {A = ℕ} 0 1 = cc in absurd (omega arith)
+phase-failed code op rest ex c k n (tidy2 r adr e adr′ bs adr″ bs′ q g) = clash cc
 
 -- a write that succeeds: with no failure before it, or one of the two clearing writes, after which the call goes on
 pub data AfterWrite (code : ℕ) (after : Ctx → Verdict) (rest : List Op) (t : Transfer) (bs : List ℕ) (ex : List Exchange) : Type 0 where
@@ -95,7 +95,7 @@ phase-write code reg bytes len over after rest ex c bs (tidy1 {ex = ex′} r adr
     let hr : rest ≡ [] = cc in
     let hc : after ≡ pass = cc in
     tidily hc (subst (λ o. Phase code rest (by (sendOf o c) (good bs) ∷ by (clearSent adr′ 1) (good bs₁) ∷ by (rangeSent adr) (bad e) ∷ ex′)) (sym h) (tidy2 r adr e adr′ bs₁ (c .address) bs hr g))
-phase-write code reg bytes len over after rest ex c bs (tidy2 r adr e adr′ bs₁ adr″ bs′ q g) = let z : _≡_ {A = ℕ} 0 1 = cc in absurd (omega arith)
+phase-write code reg bytes len over after rest ex c bs (tidy2 r adr e adr′ bs₁ adr″ bs′ q g) = clash cc
 
 -- any other operation stands only where nothing has failed
 abbrev pub NoWrite : Op → Type 0
@@ -108,4 +108,4 @@ pub phase-clean : (code : ℕ) (op : Op) (rest : List Op) (ex : List Exchange) �
 phase-clean code op rest ex n (clean g) = g
 phase-clean code op rest ex n (tidy0 r adr e q g) = let h : op ≡ clearOp 1 = cc in absurd (rw h at n)
 phase-clean code op rest ex n (tidy1 r adr e adr′ bs q g) = let h : op ≡ clearOp 0 = cc in absurd (rw h at n)
-phase-clean code op rest ex n (tidy2 r adr e adr′ bs adr″ bs′ q g) = let z : _≡_ {A = ℕ} 0 1 = cc in absurd (omega arith)
+phase-clean code op rest ex n (tidy2 r adr e adr′ bs adr″ bs′ q g) = clash cc

@@ -16,8 +16,7 @@ use Rattle.session.specs.Machine.{Session, sent, ctxOf, keptOf, sending,
 use Rattle.session.specs.History.{Exchange, by}
 use Rattle.session.specs.Claim3.{readOf, unmet, idleReads, rangeRead, rangeFailure, reported, floorIn}
 use Rattle.session.proofs.Facts.{cond-case, drop-next, untrue}
-use Rattle.session.proofs.Good.{Good, Between}
-use Rattle.session.proofs.Bisim.{between-next, idle-more}
+use Rattle.session.proofs.Good.{Good, Between, between-next, idle-more}
 use Rattle.session.proofs.Laws.{range-law, range-at}
 use Rattle.session.proofs.Phase.{IsGood, AllGood, Ranged, Phase, clean, tidy0, good-any, phase-failed, AfterWrite, cleanly, tidily, phase-write, phase-clean}
 use Rattle.session.proofs.Own.{claim-ceiling, unmet-is, limit-is}

@@ -16,6 +16,7 @@ use Rattle.session.specs.Machine.{Session, Outcome, sent, answered, refu
 use Rattle.session.specs.Records.{Record, call, reply, other, stepDef}
 use Rattle.session.specs.Refusals.{ranges, inRange, limitRows, lengthRows, ceilingRows, busy, idleBad, forRecord, refusals, firstOf}
 use Rattle.session.specs.Claim1.{Single, one-refusal, refusalNumber, Accepts}
+use Rattle.session.proofs.Facts.{clash, untrue}
 use Rattle.session.proofs.Good.{limit-positive}
 use Rattle.session.proofs.Cut.{stray-is}
 use Rattle.session.proofs.Accepts.{decide-accepts, react-accepts}
@@ -23,13 +24,10 @@ use Rattle.session.proofs.Strays.{sound-step}
 use Rattle.session.proofs.AcceptedIff.{range-is}
 use Rattle.session.proofs.Single.{single}
 
-wrong : {A : Type 0} → false ≡ true → A
-wrong h = let z : _≡_ {A = ℕ} 0 1 = cc in absurd (omega arith)
-
 same-truth : (x y : Bool) → (x ≡ true → y ≡ true) → (y ≡ true → x ≡ true) → x ≡ y
 same-truth true true f g = refl
-same-truth true false f g = wrong (f refl)
-same-truth false true f g = wrong (g refl)
+same-truth true false f g = untrue (f refl)
+same-truth false true f g = untrue (g refl)
 same-truth false false f g = refl
 
 -- steps
@@ -92,8 +90,8 @@ idle-is code zero (range ∷ l) i = rw (leb-none (length (each (limitOf code) l)
 idle-is code (suc k) (op ∷ l) i = rw (leb-next (length (each (limitOf code) l)) k) (idle-is code k l i)
 
 reads-is : (k : ℕ) (l : List Op) (op : Op) (rest : List Op) → drop k l ≡ op ∷ rest → lengthOf op ≡ getD (each lengthOf l) k 0
-reads-is zero [] op rest e = let z : _≡_ {A = ℕ} 0 1 = cc in absurd (omega arith)
-reads-is (suc k) [] op rest e = let z : _≡_ {A = ℕ} 0 1 = cc in absurd (omega arith)
+reads-is zero [] op rest e = clash cc
+reads-is (suc k) [] op rest e = clash cc
 reads-is zero (x ∷ l) op rest e = let q : op ≡ x = cc in ap lengthOf q
 reads-is (suc k) (x ∷ l) op rest e = reads-is k l op rest e
 
@@ -172,8 +170,8 @@ cond-at f b b′ {x} {y} {m} {n} e p q = go b b′ e
     go : (c c′ : Bool) → c ≡ c′ → f (cond c x y) ≡ cond c′ m n
     go true true h = p
     go false false h = q
-    go true false h = wrong (sym h)
-    go false true h = wrong h
+    go true false h = untrue (sym h)
+    go false true h = untrue h
 
 not-up-is : (code : ℕ) (up : Bool) → notUp code up ≡ not (eqb code 1) && not up
 not-up-is code up = go (eqb code 1)
@@ -189,7 +187,7 @@ on-ops s f bs m = go (drop (s .step) (opsOf (programOf (s .code)))) refl (sound-
   where
     go : (l : List Op) → drop (s .step) (opsOf (programOf (s .code))) ≡ l → idleWrong (s .code) l (s .idle) ≡ false
         → refusalNumber (onOps l (programOf (s .code)) s f bs) ≡ cond (not (zeroFrom (cleanFrom f (getD (getD lengthRows (s .code) []) (s .step) 0)) bs)) 12 0
-    go [] e i = wrong (sym i)
+    go [] e i = untrue (sym i)
     go (op ∷ rest) e i =
         cond-at refusalNumber (stray (sendOf op (ctxOf s)) f bs) (not (zeroFrom (cleanFrom f (getD (getD lengthRows (s .code) []) (s .step) 0)) bs))
         (stray-is (sendOf op (ctxOf s)) f bs

@@ -13,7 +13,7 @@ use Rattle.session.specs.Instructions.{Ctx, Op, write, read, wait, range
 use Rattle.session.specs.Steps.{slot}
 use Rattle.session.specs.Calls.{Program, opsOf, tuning, programs, programOf}
 use Rattle.session.specs.Claim1.{isLength, OnTheBus, Says}
-use Rattle.session.proofs.Facts.{both}
+use Rattle.session.proofs.Facts.{both, clash}
 use Rattle.session.proofs.Table.{of-table}
 
 abbrev sized : Op → Ctx → Bool
@@ -36,9 +36,9 @@ sized-law =
     (λ c. refl, (λ c. refl, (λ c. refl, (λ c. refl, (λ c. refl, (λ c. refl, (λ c. refl, (λ c. refl, (λ c. refl, (λ c. refl, (λ c. refl, (λ c. refl, (λ c. refl, (λ c. refl, (λ c. refl, (λ c. refl, tt))))))))))))))))
 
 sized-at : (k : ℕ) (l : List Op) (c : Ctx) {op : Op} {rest : List Op} → allSized l c ≡ true → drop k l ≡ op ∷ rest → sized op c ≡ true
-sized-at zero [] c h e = let z : _≡_ {A = ℕ} 0 1 = cc in absurd (omega arith)
+sized-at zero [] c h e = clash cc
 sized-at zero (x ∷ l) c {op} h e = let q : x ≡ op = cc in subst (λ o. sized o c ≡ true) q (both (sized x c) (allSized l c) h .0)
-sized-at (suc k) [] c h e = let z : _≡_ {A = ℕ} 0 1 = cc in absurd (omega arith)
+sized-at (suc k) [] c h e = clash cc
 sized-at (suc k) (x ∷ l) c h e = sized-at k l c (both (sized x c) (allSized l c) h .1) e
 
 padded : (n : ℕ) (bs : List ℕ) → zeroFrom (length bs) (padTo n bs) ≡ true

@@ -15,15 +15,12 @@ use Rattle.session.specs.Instructions.{Op, sendOf}
 use Rattle.session.specs.Calls.{opsOf, programOf, ceilingOf, argumentsOk}
 use Rattle.session.specs.Machine.{Session, refused, ctxOf, toReply, stray, onOps, idleWrong, upWrong, malformed, waitsNow, illFormed, replyDef}
 use Rattle.session.specs.Claim1.{firstOut, refusalNumber, Stray, past-length, beside-failure, Refused12, Accepts}
-use Rattle.session.proofs.Facts.{cond-case, both}
+use Rattle.session.proofs.Facts.{cond-case, both, clash, untrue}
 use Rattle.session.proofs.Cut.{stray-is}
 use Rattle.session.proofs.Accepts.{react-accepts}
 
-wrong : {A : Type 0} → true ≡ false → A
-wrong h = let z : _≡_ {A = ℕ} 0 1 = cc in absurd (omega arith)
-
 found : (n : ℕ) (bs : List ℕ) → zeroFrom n bs ≡ false → (i : ℕ) × (n ≤ i) × (byte i bs ≡ 0 → ⊥)
-found n [] e = wrong e
+found n [] e = untrue (sym e)
 found zero (x ∷ xs) e = go (eqb x 0) refl e (λ q. found zero xs q)
   where
     go : (b : Bool) → eqb x 0 ≡ b → b && zeroFrom zero xs ≡ false → (zeroFrom zero xs ≡ false → (i : ℕ) × (0 ≤ i) × (byte i xs ≡ 0 → ⊥)) → (i : ℕ) × (0 ≤ i) × (byte i (x ∷ xs) ≡ 0 → ⊥)
@@ -57,7 +54,7 @@ is-stray t (suc k) bs (beside-failure e i h) = stray-is t (suc k) bs ∙ go (zer
     go false q = refl
 
 or-parts : (a b : Bool) → a || b ≡ false → (a ≡ false) × (b ≡ false)
-or-parts true b h = wrong h
+or-parts true b h = untrue (sym h)
 or-parts false b h = (refl, h)
 
 -- a sound session stands at an operation
@@ -74,7 +71,7 @@ unfolding replyDef stepDef
 refused-12 s f bs = (there, back)
   where
     at : (l : List Op) → ((s .code ≡ 0) → ⊥) → malformed s ≡ false → drop (s .step) (opsOf (programOf (s .code))) ≡ l → onOps l (programOf (s .code)) s f bs ≡ refused Answer.StrayByte s → Refused12 s f bs
-    at [] w m e = λ q. let z : _≡_ {A = ℕ} 0 1 = cc in absurd (omega arith)
+    at [] w m e = λ q. clash cc
     at (op ∷ rest) w m e =
         cond-case (λ o. o ≡ refused Answer.StrayByte s → Refused12 s f bs) (stray (sendOf op (ctxOf s)) f bs)
         (λ h q. record { waiting = w; sound = m; stray = rw e (strays (sendOf op (ctxOf s)) f bs h) })
@@ -83,7 +80,7 @@ refused-12 s f bs = (there, back)
     there : stepDef s (reply f bs) ≡ refused Answer.StrayByte s → Refused12 s f bs
     there =
         cond-case (λ o. o ≡ refused Answer.StrayByte s → Refused12 s f bs) (illFormed s)
-        (λ m q. let z : _≡_ {A = ℕ} 0 1 = cc in absurd (omega arith))
+        (λ m q. clash cc)
         (λ m. cond-case (λ o. o ≡ refused Answer.StrayByte s → Refused12 s f bs) (not (waitsNow s))
         (λ e q. let z : _≡_ {A = ℕ} 11 12 = ap refusalNumber q in absurd (omega arith))
         (λ e.
@@ -91,7 +88,7 @@ refused-12 s f bs = (there, back)
         at (drop (s .step) (opsOf (programOf (s .code)))) (eqb-false (s .code) 0 (not-true (eqb (s .code) 0) w)) (rw w at m) refl))
 
     on : (l : List Op) → idleWrong (s .code) l (s .idle) ≡ false → Stray (firstOut l (ctxOf s) .reads) f bs → onOps l (programOf (s .code)) s f bs ≡ refused Answer.StrayByte s
-    on [] i x = wrong i
+    on [] i x = untrue (sym i)
     on (op ∷ rest) i x = rw (is-stray (sendOf op (ctxOf s)) f bs x)
 
     back : Refused12 s f bs → stepDef s (reply f bs) ≡ refused Answer.StrayByte s

@@ -20,7 +20,7 @@ use Rattle.budget.specs.Budget.{withPre, wordOfSum, wordOfClocks, wordWithin, w
 use Rattle.session.specs.Instructions.{Ctx, panics, Verdict, onward, leap, stop, test}
 use Rattle.session.specs.Steps.{byPlace, byWord}
 use Rattle.session.specs.Script.{Script}
-use Rattle.session.proofs.Facts.{cond-same}
+use Rattle.session.proofs.Facts.{cond-same, clash}
 use Rattle.session.specs.Left.{decideS}
 use Rattle.session.proofs.Once.{placesAt, byPlaces, finalMacro, spareSum, wordTests}
 
@@ -34,7 +34,7 @@ clear-zero p e = by (eqb p 0) refl e
   where
     by : (b : Bool) → eqb p 0 ≡ b → cond b PlaceOr.Clear (PlaceOr.Place p) ≡ PlaceOr.Clear → p ≡ 0
     by true q e = eqb-true p 0 q
-    by false q e = let z : _≡_ {A = ℕ} 0 1 = cc in absurd (omega arith)
+    by false q e = clash cc
 
 -- no place means that the first is none, and so are the others
 first-none : (p : ℕ) (ps : List ℕ) → firstOf (p ∷ ps) ≡ 0 → (p ≡ 0) × (firstOf ps ≡ 0)

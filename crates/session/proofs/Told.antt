@@ -3,7 +3,6 @@ use mathlib.Core.Path.{_≡_, refl, sym, _∙_}
 use mathlib.Core.Bool.{Bool, true, false, not, _&&_, cond}
 use mathlib.Core.List.{List, [], _∷_}
 use Prim.Native.Nat.{ℕ}
-use native.Mathlib.Omega.{arith}
 use lib.Dec.{eqb}
 use lib.ListN.{drop}
 use borrow.Author.Tests.{not-true}
@@ -13,7 +12,7 @@ use Rattle.session.specs.Steps.{slot}
 use Rattle.session.specs.Calls.{opsOf, programOf}
 use Rattle.session.specs.History.{Exchange, by}
 use Rattle.session.specs.Claim3.{wrote, asks, awaited, readOf}
-use Rattle.session.proofs.Facts.{both}
+use Rattle.session.proofs.Facts.{both, clash}
 use Rattle.session.proofs.Shape.{asksOne, waitsOn, sameBool, same-bool, and-false, full, edge, isWrite, Known, known-at, asks-is, sameOn}
 
 abbrev pub Told : ℕ → List Op → List Exchange → Type 0
@@ -51,9 +50,9 @@ told-write code k ex h = go (drop k (opsOf (programOf code))) refl h
     go : (l : List Op) → drop k (opsOf (programOf code)) ≡ l → isWrite l ≡ true → Told code l ex
     go [] e w = tt
     go (write reg bytes len over after ∷ rest) e w = told-by code (write reg bytes len over after) rest ex (known-at code k _ rest e) (λ c. refl)
-    go (read reg len slot over after ∷ rest) e w = let z : _≡_ {A = ℕ} 0 1 = cc in absurd (omega arith)
-    go (wait x ∷ rest) e w = let z : _≡_ {A = ℕ} 0 1 = cc in absurd (omega arith)
-    go (range ∷ rest) e w = let z : _≡_ {A = ℕ} 0 1 = cc in absurd (omega arith)
+    go (read reg len slot over after ∷ rest) e w = clash cc
+    go (wait x ∷ rest) e w = clash cc
+    go (range ∷ rest) e w = clash cc
 
 -- after another read of the same wait
 pub told-again : (code : ℕ) (w : Condition) (rest : List Op) (ex : List Exchange) (c₀ : Ctx) (r : Reply)

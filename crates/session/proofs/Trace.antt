@@ -14,7 +14,7 @@ use Rattle.session.specs.Steps.{slot}
 use Rattle.session.specs.Calls.{opsOf, programOf}
 use Rattle.session.specs.History.{Exchange, by}
 use Rattle.session.specs.Claim3.{wrote, wasRead, firstData}
-use Rattle.session.proofs.Facts.{both}
+use Rattle.session.proofs.Facts.{both, clash}
 use Rattle.session.proofs.Slots.{length-from, from-at, under, above, within, length-put}
 use Rattle.session.proofs.Shape.{asksOp, full, leaps, one-byte}
 
@@ -155,7 +155,7 @@ trace-again t l w rest c r ex d = go (wasRead (t .reg) ex) (asksOp (t .reg) (wai
   where
     go : (b a : Bool) → wasRead (t .reg) ex ≡ b → asksOp (t .reg) (wait w) ≡ a → Traced t l (wait w ∷ rest) (by (sendOf (wait w) c) r ∷ ex)
     go true a e q = record { law = rw e (rw e at (d .law)); bytes = λ i lt. rw e (d .bytes i lt) }
-    go false true e q = let y : false ≡ true = rw (e, q) at (d .law) in let z : _≡_ {A = ℕ} 0 1 = cc in absurd (omega arith)
+    go false true e q = let y : false ≡ true = rw (e, q) at (d .law) in clash cc
     go false false e q =
         record { law = rw (e, q) (rw (e, q) at (d .law)); bytes = λ i lt. rw (e, q) (d .bytes i lt ∙ ap (byte i) (first-none (t .reg) ex e)) }
 

@@ -3,12 +3,12 @@ use mathlib.Core.Path.{_≡_, refl, ap, _∙_}
 use mathlib.Core.Bool.{Bool, true, false, not, _||_, cond}
 use mathlib.Core.List.{List, [], _∷_}
 use Prim.Native.Nat.{ℕ}
-use native.Mathlib.Omega.{arith}
 use lib.Dec.{eqb}
 use Rattle.session.specs.Bus.{Driver, absent, withAddress, withBudget}
 use Rattle.session.specs.Machine.{notUp}
 use Rattle.session.specs.History.{CallRun}
 use Rattle.session.specs.Claim3.{isDone, upBy, afterDone, isUp, driverOf, BegunUp}
+use Rattle.session.proofs.Facts.{clash}
 
 -- after an accepted call that is not answered Done
 abbrev pub afterBegun : ℕ → Driver → Driver
@@ -47,7 +47,7 @@ fields-are (c ∷ cs) h =
     go false true up e = refl
     go true false true e = refl
     go false false true e = refl
-    go fine false false e = let z : _≡_ {A = ℕ} 0 1 = cc in absurd (omega arith)
+    go fine false false e = clash cc
 
 pub down : (cs : List CallRun) → isUp cs ≡ false → driverOf cs ≡ absent
 down [] e = refl
@@ -59,4 +59,4 @@ begun-while-up code u h = go (eqb code 1) u h
     go : (b v : Bool) → cond b false (not v) ≡ false → b || v ≡ true
     go true v e = refl
     go false true e = refl
-    go false false e = let z : _≡_ {A = ℕ} 0 1 = cc in absurd (omega arith)
+    go false false e = clash cc
