@@ -9,7 +9,7 @@ use lib.Dec.{eqb, leb}
 use borrow.Author.Tests.{leb-true, eqb-true, not-false, lt-leb, leb-false, ne-eqb}
 use Rattle.session.specs.Records.{stepDef, call}
 use Rattle.session.specs.Calls.{programOf, greatest, argumentsOk}
-use Rattle.session.specs.Machine.{Session, ctxOf, waitsNow, illFormed, begun, notUp, beginDef}
+use Rattle.session.specs.Machine.{Session, contextOf, waitsNow, illFormed, begun, notUp, beginDef}
 use Rattle.session.specs.Refusals.{ranges, inRange}
 use Rattle.session.specs.Claim2.{Ready, bring-up, while-up, Accepted}
 use Rattle.session.specs.Claim1.{Accepts}
@@ -87,4 +87,4 @@ accepted-iff s code a b = (there, back)
     back : Accepted s code a b → Accepts (stepDef s (call code a b))
     back h =
         rw (h .none-waiting, range-is code a b ∙ h .arguments, ready-ok s code (h .ready))
-        (decide-accepts (programOf code .entry (ctxOf (begun s code a b))) (programOf code) 0 0 (begun s code a b))
+        (decide-accepts (programOf code .entry (contextOf (begun s code a b))) (programOf code) 0 0 (begun s code a b))

@@ -6,9 +6,9 @@ use Prim.Native.Nat.{ℕ, suc}
 use lib.Dec.{ltb}
 use lib.ListN.{drop}
 use Rattle.session.specs.Bus.{Driver, Transfer, Answer, Reply, bad, good, waitLimit, idleOn}
-use Rattle.session.specs.Instructions.{Ctx, Verdict, onward, leap, stop, test, Op, write, read, wait, range, Final, success, failure, sendOf}
+use Rattle.session.specs.Instructions.{Context, Verdict, onward, leap, stop, test, Op, write, read, wait, range, Final, success, failure, sendOf}
 use Rattle.session.specs.Calls.{Program, opsOf, programOf}
-use Rattle.session.specs.Machine.{Session, Outcome, sent, answered, resting, ctxOf, keptOf, giving, conclude, enter, arrive, decide, react, toReply, stray, onOps, waitsNow, illFormed, replyDef}
+use Rattle.session.specs.Machine.{Session, Outcome, sent, answered, resting, contextOf, keptOf, giving, conclude, enter, arrive, decide, react, toReply, stray, onOps, waitsNow, illFormed, replyDef}
 use Rattle.session.specs.Claim1.{Accepts, LeavesNone}
 use Rattle.session.proofs.Facts.{cond-case, clash}
 
@@ -21,8 +21,8 @@ module _ (P : Outcome → Type 0) (code : ℕ)
   conclude-all (success v d) x e = done v _ d
   conclude-all (failure k) x e = end _ x e
 
-  enter-all : (fin : Ctx → Final) (l : List Op) (k : ℕ) (x : Session) → x .code ≡ code → P (enter fin l k x)
-  enter-all fin [] k x e = conclude-all (fin (ctxOf x)) x e
+  enter-all : (fin : Context → Final) (l : List Op) (k : ℕ) (x : Session) → x .code ≡ code → P (enter fin l k x)
+  enter-all fin [] k x e = conclude-all (fin (contextOf x)) x e
   enter-all fin (op ∷ l) k x e = out _ _
 
   arrive-all : (p : Program) (k : ℕ) (x : Session) → x .code ≡ code → P (arrive p k x)
@@ -37,10 +37,10 @@ module _ (P : Outcome → Type 0) (code : ℕ)
 
   pub react-all : (op : Op) (p : Program) (x : Session) (r : Reply) → x .code ≡ code → P (react op p x r)
   react-all (write reg bytes len over after) p x (bad k) e = end _ x e
-  react-all (write reg bytes len over after) p x (good bs) e = decide-all (after (ctxOf x)) p over (suc (x .step)) x e
+  react-all (write reg bytes len over after) p x (good bs) e = decide-all (after (contextOf x)) p over (suc (x .step)) x e
   react-all (read reg len slot over after) p x (bad k) e = end _ x e
   react-all (read reg len slot over after) p x (good bs) e =
-      decide-all (after (ctxOf (keptOf x (read reg len slot over after) (good bs)))) p over (suc (x .step)) (keptOf x (read reg len slot over after) (good bs)) e
+      decide-all (after (contextOf (keptOf x (read reg len slot over after) (good bs)))) p over (suc (x .step)) (keptOf x (read reg len slot over after) (good bs)) e
   react-all (wait w) p x (bad k) e = end _ x e
   react-all (wait w) p x (good bs) e =
       cond-case P (idleOn w bs) (λ h. cond-case P (ltb (suc (x .idle)) (waitLimit (x .code) w)) (λ h′. out _ _) (λ h′. end _ x e)) (λ h. arrive-all p _ x e)
@@ -63,6 +63,6 @@ bring-up-leaves-none s f bs e =
     go : (l : List Op) → LeavesNone (onOps l (programOf (s .code)) s f bs)
     go [] = tt
     go (op ∷ l) =
-        cond-case LeavesNone (stray (sendOf op (ctxOf s)) f bs) (λ h. tt)
+        cond-case LeavesNone (stray (sendOf op (contextOf s)) f bs) (λ h. tt)
         (λ h. react-all LeavesNone 1 (λ t x. tt) (λ v n d q. clash cc)
         (λ y x q z. rw q) op (programOf (s .code)) s (toReply f bs) e)

@@ -10,7 +10,7 @@ use Rattle.session.specs.Bus.{Driver, Transfer, Answer, Condition, detec
 use Rattle.session.specs.Instructions.{Stop, declines, wrongDevice, wrongAddress, wrongArgument, unready, panics, stopAnswer, Verdict, onward, leap, stop, test, Op, write, read, wait, range, Final, success, failure, sendOf}
 use Rattle.session.specs.Steps.{slot}
 use Rattle.session.specs.Calls.{opsOf, programOf}
-use Rattle.session.specs.Machine.{Session, Outcome, sent, answered, refused, broken, resting, heldBy, ctxOf, sending, giving, conclude, enter, arrive, decide}
+use Rattle.session.specs.Machine.{Session, Outcome, sent, answered, refused, broken, resting, heldBy, contextOf, sending, giving, conclude, enter, arrive, decide}
 use Rattle.session.specs.History.{Exchange, Standing, waiting, ended, CallRun}
 use Rattle.session.specs.Claim3.{limitIn, idleReads, rangeFailure, Failures, budgetOfFirst, afterDone, Lawful, floorIn}
 use Rattle.session.proofs.Facts.{cond-case, untrue, clash}
@@ -67,7 +67,7 @@ pub record FineSent (code a b : ℕ) (ex : List Exchange) (d : Driver) (t : Tran
   pub same-b : s .b ≡ b
   pub op : Op
   pub rest : List Op
-  pub is : t ≡ sendOf op (ctxOf s)
+  pub is : t ≡ sendOf op (contextOf s)
   pub match : Match s op rest ex d
   pub lawful : Lawful (runOf code a b ex (waiting t))
 
@@ -137,25 +137,25 @@ lawful-ended s k ex d m x n f fl v =
     }
 
 lawful-waiting : (s : Session) (op : Op) (rest : List Op) (ex : List Exchange) (d : Driver) → Match s op rest ex d
-    → Lawful (runOf (s .code) (s .a) (s .b) ex (waiting (sendOf op (ctxOf s))))
+    → Lawful (runOf (s .code) (s .a) (s .b) ex (waiting (sendOf op (contextOf s))))
 lawful-waiting s op rest ex d m =
     record {
       ceiling = omega (arith, m .count, m .good .bound, claim-ceiling (s .code));
       timeout = (λ t. absurd t, λ r. absurd (omega (arith, r .reached, m .streak (r .condition), idle-below s op rest (m .good) (r .condition))));
-      failure = phase-waiting (s .code) op rest ex (ctxOf s) (m .phase);
+      failure = phase-waiting (s .code) op rest ex (contextOf s) (m .phase);
       figure = tt;
       value = λ h. untrue h;
       floor = λ h. untrue h;
     }
 
 pub fine-waiting : (s : Session) (op : Op) (rest : List Op) (ex : List Exchange) (d : Driver) → Match s op rest ex d
-    → FineSent (s .code) (s .a) (s .b) ex d (sendOf op (ctxOf s)) s
+    → FineSent (s .code) (s .a) (s .b) ex d (sendOf op (contextOf s)) s
 fine-waiting s op rest ex d m =
     record { same-code = refl; same-a = refl; same-b = refl; op = op; rest = rest; is = refl; match = m; lawful = lawful-waiting s op rest ex d m }
 
 -- the end of a call: with no failure, or after a failed range read and both clearing writes
 module _ (s : Session) (k : ℕ) (ex : List Exchange) (d : Driver) (m : Mid s k ex d) (tr : (t : Track) → Sound t (s .code) → Traced t (s .carried) [] ex) (ow : Owns (s .code) → Owned (s .own) (s .carried) [] ex) (fl : floorIn (s .code) ≤ length ex) where
-  clean-end : AllGood ex → (f : Final) → FinalOk (s .code) (ctxOf s) f → Fine (s .code) (s .a) (s .b) ex d (conclude f s)
+  clean-end : AllGood ex → (f : Final) → FinalOk (s .code) (contextOf s) f → Fine (s .code) (s .a) (s .b) ex d (conclude f s)
   clean-end g (success v d′) h =
       record {
         rests = refl;
@@ -165,13 +165,13 @@ module _ (s : Session) (k : ℕ) (ex : List Exchange) (d : Driver) (m : Mid s k 
   clean-end g (failure e) h = record { rests = refl; fields = held-is (s .code) d (s .driver) (m .driver); lawful = lawful-ended s k ex d m (Answer.BusError e) refl (good-any (s .code) [] ex _ g) (λ h. untrue h) (λ h. untrue h) }
 
 pub end-fine : (s : Session) (k : ℕ) (ex : List Exchange) (d : Driver) → Mid s k ex d → ((t : Track) → Sound t (s .code) → Traced t (s .carried) [] ex)
-    → (Owns (s .code) → Owned (s .own) (s .carried) [] ex) → floorIn (s .code) ≤ length ex → Phase (s .code) [] ex → Fine (s .code) (s .a) (s .b) ex d (conclude (programOf (s .code) .final (ctxOf s)) s)
-end-fine s k ex d m tr ow fl (clean g) = clean-end s k ex d m tr ow fl g (programOf (s .code) .final (ctxOf s)) (final-law (s .code) (ctxOf s))
+    → (Owns (s .code) → Owned (s .own) (s .carried) [] ex) → floorIn (s .code) ≤ length ex → Phase (s .code) [] ex → Fine (s .code) (s .a) (s .b) ex d (conclude (programOf (s .code) .final (contextOf s)) s)
+end-fine s k ex d m tr ow fl (clean g) = clean-end s k ex d m tr ow fl g (programOf (s .code) .final (contextOf s)) (final-law (s .code) (contextOf s))
 end-fine s k ex d m tr ow fl (tidy0 r adr e q g) = clash cc
 end-fine s k ex d m tr ow fl (tidy1 r adr e adr′ bs q g) = clash cc
 end-fine s k ex d m tr ow fl (tidy2 {ex = ex′} r adr e adr′ bs adr″ bs′ q g) =
     let h : s .failed ≡ suc e = m .failed ∙ ap (λ b. cond b (suc e) (rangeFailure (s .code) ex′)) (r .inside) in
-    rw (r .final (ctxOf s) e h)
+    rw (r .final (contextOf s) e h)
     (record { rests = refl; fields = held-is (s .code) d (s .driver) (m .driver); lawful = lawful-ended s k ex d m (Answer.BusError (suc e)) refl (phase-cleared (s .code) (s .transfers) adr e adr′ bs adr″ bs′ ex′ r g) (λ h. untrue h) (λ h. untrue h) })
 
 pub arrive-fine : (s : Session) (k : ℕ) (ex : List Exchange) (d : Driver) → Mid s k ex d → Fine (s .code) (s .a) (s .b) ex d (arrive (programOf (s .code)) k s)

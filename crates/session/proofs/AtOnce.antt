@@ -7,7 +7,7 @@ use lib.Dec.{ltb}
 use lib.Ieee.{binary32, round, ofBits, le}
 use Rattle.rate.specs.Rate.{signalRateLimitWord, rateOf, inRange, literal}
 use Rattle.session.specs.Calls.{tuning, programs, programOf, argumentsOk}
-use Rattle.session.specs.Machine.{Session, Outcome, ctxOf, arrive, decide, begun, beginDef}
+use Rattle.session.specs.Machine.{Session, Outcome, contextOf, arrive, decide, begun, beginDef}
 use Rattle.session.specs.Records.{call, stepDef}
 use Rattle.session.specs.Refusals.{atOnce, firstAnswer}
 use Rattle.session.specs.Claim1.{answerShown, AtOnce}
@@ -18,7 +18,7 @@ use Rattle.session.proofs.Refused.{not-refused}
 
 abbrev At : Session → ℕ → ℕ → ℕ → Type 0
 At s a b code =
-    answerShown (decide (programOf code .entry (ctxOf (begun s code a b))) (programOf code) 0 0 (begun s code a b)) ≡ firstAnswer (atOnce code a b)
+    answerShown (decide (programOf code .entry (contextOf (begun s code a b))) (programOf code) 0 0 (begun s code a b)) ≡ firstAnswer (atOnce code a b)
 
 branch : (f : Outcome → Option (ℕ × ℕ × ℕ)) (t : Bool) {x y : Outcome} {p q : Option (ℕ × ℕ × ℕ)} → f x ≡ p → f y ≡ q → f (cond t x y) ≡ cond t p q
 branch f true h k = h

@@ -11,7 +11,7 @@ use Rattle.session.specs.Bus.{Transfer, byte, Condition, detectorReady, 
 use Rattle.session.specs.Instructions.{Op, write, read, wait, range, bytesFrom, sendOf}
 use Rattle.session.specs.Steps.{slot}
 use Rattle.session.specs.Calls.{Program}
-use Rattle.session.specs.Machine.{Session, ctxOf, react, toReply, allZero, stray}
+use Rattle.session.specs.Machine.{Session, contextOf, react, toReply, allZero, stray}
 use Rattle.session.specs.Script.{cut}
 
 zero-from : (n : ℕ) (bs : List ℕ) → allZero (drop n bs) ≡ zeroFrom n bs
@@ -45,7 +45,7 @@ idle-take statusReady (b ∷ bs) = refl
 idle-take started [] = refl
 idle-take started (b ∷ bs) = refl
 
-pub react-cut : (op : Op) (p : Program) (s : Session) (f : ℕ) (bs : List ℕ) → react op p s (toReply f bs) ≡ react op p s (cut (sendOf op (ctxOf s)) f bs)
+pub react-cut : (op : Op) (p : Program) (s : Session) (f : ℕ) (bs : List ℕ) → react op p s (toReply f bs) ≡ react op p s (cut (sendOf op (contextOf s)) f bs)
 react-cut (write reg bytes len over after) p s zero bs = refl
 react-cut (write reg bytes len over after) p s (suc e) bs = refl
 react-cut (read reg len slot over after) p s zero bs = rw (bytes-take 0 len len bs (omega arith))

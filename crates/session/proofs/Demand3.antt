@@ -9,7 +9,7 @@ use lib.ListN.{length}
 use borrow.Author.Tests.{eqb-false}
 use Rattle.session.specs.Bus.{Driver, Answer, Reply}
 use Rattle.session.specs.Instructions.{Op, sendOf}
-use Rattle.session.specs.Machine.{Session, Outcome, sent, answered, refused, broken, resting, freshSession, ctxOf, toReply, illFormed}
+use Rattle.session.specs.Machine.{Session, Outcome, sent, answered, refused, broken, resting, freshSession, contextOf, toReply, illFormed}
 use Rattle.session.specs.Records.{Record, call, reply, other, recordsOf, isWhole, stepDef}
 use Rattle.session.specs.History.{Got, transfer, answer, refusal, Entry, isTransfer, isAnswer, isRefused, isAcceptedCall, callsIn, answersIn, repliesIn, transfersIn, refusedIn, countsOf, Run, stopped, taking, runFrom, runRecords, runDef, gotOf, sessionOf, sessionAfter, Genuine, inOrder, Exchange, Standing, waiting, ended, CallRun, replied, joined, callsOf, isWaiting, waitingIn, transfersOf}
 use Rattle.session.specs.Claim3.{ofWaiting, Demand3}
@@ -99,7 +99,7 @@ none-waiting (waiting t) n e = absurd (omega (arith, e))
 none-waiting (ended x m) n e = refl
 
 of-waiting : (f : CallRun → ℕ) (s : Session) (g : Session → ℕ) (cs : List CallRun) → g (resting (s .driver)) ≡ 0
-    → ((op : Op) (rest : List Op) (ex : List Exchange) (d : Driver) → Match s op rest ex d → g s ≡ f (runOf (s .code) (s .a) (s .b) ex (waiting (sendOf op (ctxOf s)))))
+    → ((op : Op) (rest : List Op) (ex : List Exchange) (d : Driver) → Match s op rest ex d → g s ≡ f (runOf (s .code) (s .a) (s .b) ex (waiting (sendOf op (contextOf s)))))
     → Now s cs → g s ≡ ofWaiting f cs
 of-waiting f s g [] z k (rests e w) = ap g e ∙ z
 of-waiting f s g (c ∷ cs) z k (rests e w) = rw (none-waiting (c .standing) (waitingIn cs) w) (ap g e ∙ z)

@@ -10,19 +10,19 @@ use lib.ListN.{drop}
 use Rattle.timing.specs.declared.PlaceOr.{PlaceOr}
 use Rattle.timing.specs.Places.{firstPlace}
 use Rattle.session.specs.Bus.{Transfer, Answer, Reply, bad, good, waitLimit, idleOn}
-use Rattle.session.specs.Instructions.{Instruction, Ctx, Op, write, read, wait, range, Final, bytesFrom, timingIn, sendOf}
+use Rattle.session.specs.Instructions.{Instruction, Context, Op, write, read, wait, range, Final, bytesFrom, timingIn, sendOf}
 use Rattle.session.specs.Steps.{slot, byWord, budgetToSet, wordToSet, noTime, overLast, timingLength, opOf}
 use Rattle.session.specs.Calls.{Program, opsOf, tuning, programs, programOf}
 use Rattle.session.specs.Script.{Script, done, send, onReply, waitLoop}
 use Rattle.session.proofs.Facts.{both, clash}
 use Rattle.session.proofs.Table.{of-table}
-use Rattle.session.specs.Left.{keeping, failS, resume}
+use Rattle.session.specs.Left.{keeping, failing, resume}
 use Rattle.session.proofs.Once.{Kind, timing, last, other, kindOf, onceBy, onceOf}
 use Rattle.session.proofs.Tests.{none-known, first-agrees, word-agrees, place-same, verdict-same}
 use Rattle.session.proofs.Later.{later-stays}
 
 -- the first m replies from slot j on are clear
-abbrev Clear : ℕ → ℕ → Ctx → Type 0
+abbrev Clear : ℕ → ℕ → Context → Type 0
 Clear m j c = firstPlace (timingIn j (c .carried)) m ≡ PlaceOr.Clear
 
 -- instructions none of which makes tests again
@@ -75,7 +75,7 @@ ordered m j [] = true
 ordered m j (i ∷ is) = fits m j (kindOf i) is && ordered (repliesBy (kindOf i)) (slotBy (kindOf i)) is
 
 -- the replies before it are clear
-knows : (i k m j : ℕ) (c : Ctx) → follows (suc i) k m j ≡ true → Clear m j c → (i ≤ 5) × Clear i k c
+knows : (i k m j : ℕ) (c : Context) → follows (suc i) k m j ≡ true → Clear m j c → (i ≤ 5) × Clear i k c
 knows zero k m j c h p = (omega arith, none-known (timingIn k (c .carried)))
 knows (suc i) k m j c h p =
     let q = both (eqb m (suc i)) (eqb j k && leb m 5) h in
@@ -84,7 +84,7 @@ knows (suc i) k m j c h p =
     (omega (arith, leb-true m 5 (s .1)), rw (← e, ← eqb-true j k (s .0)) p)
 
 -- and its own leaves them so
-stays : (i k m j : ℕ) (c : Ctx) (bs : List ℕ) → follows (suc i) k m j ≡ true → Clear m j c → Clear i k (keeping c (opOf (Instruction.ReadTiming (suc i) k)) (good bs))
+stays : (i k m j : ℕ) (c : Context) (bs : List ℕ) → follows (suc i) k m j ≡ true → Clear m j c → Clear i k (keeping c (opOf (Instruction.ReadTiming (suc i) k)) (good bs))
 stays i k m j c bs h p =
     let q = knows i k m j c h p in
     later-stays i (q .0) k (c .carried) (bytesFrom 0 (timingLength (suc i)) bs) (q .1)
@@ -109,11 +109,11 @@ send-same t fail {g} {g′} h = ap (send t) (fun-ext go)
     go (bad e) = refl
     go (good bs) = h bs
 
-module _ (fin : Ctx → Final) where
-  abbrev Same : List Instruction → Ctx → Type 0
+module _ (fin : Context → Final) where
+  abbrev Same : List Instruction → Context → Type 0
   Same is c = resume fin zero (map opOf is) c ≡ resume fin zero (map onceOf is) c
 
-  leap-same : (n : ℕ) (is : List Instruction) (c : Ctx) → plainAfter n is ≡ true → Same is c
+  leap-same : (n : ℕ) (is : List Instruction) (c : Context) → plainAfter n is ≡ true → Same is c
       → resume fin n (map opOf is) c ≡ resume fin n (map onceOf is) c
   leap-same zero is c h s = s
   leap-same (suc n) is c h s = past (suc n) is h
@@ -124,17 +124,17 @@ module _ (fin : Ctx → Final) where
       past (suc n) (i ∷ is) h = past n is h
 
   -- one operation that both lists have
-  other-same : (op : Op) (is : List Instruction) (c : Ctx) → plainAfter (overOf op) is ≡ true → ((c′ : Ctx) → Same is c′)
+  other-same : (op : Op) (is : List Instruction) (c : Context) → plainAfter (overOf op) is ≡ true → ((c′ : Context) → Same is c′)
       → resume fin zero (op ∷ map opOf is) c ≡ resume fin zero (op ∷ map onceOf is) c
   other-same (write reg bytes len over after) is c h s =
       send-same _ _ (λ bs. verdict-same (after c) over c _ _ (s c) (leap-same over is c h (s c)))
   other-same (read reg len slot over after) is c h s =
       send-same _ _
       (λ bs.
-      let c′ : Ctx = keeping c (read reg len slot over after) (good bs) in
+      let c′ : Context = keeping c (read reg len slot over after) (good bs) in
       verdict-same (after c′) over c′ _ _ (s c′) (leap-same over is c′ h (s c′)))
   other-same (wait x) is c h s =
-      ap (waitLoop (waitLimit (c .code) x) (sendOf (wait x) c) (idleOn x) (failS c) (done Answer.Timeout (c .driver))) (s c)
+      ap (waitLoop (waitLimit (c .code) x) (sendOf (wait x) c) (idleOn x) (failing c) (done Answer.Timeout (c .driver))) (s c)
   other-same range is c h s = ap (send (sendOf range c)) (fun-ext go)
     where
       go : (r : Reply)
@@ -144,27 +144,27 @@ module _ (fin : Ctx → Final) where
       go (good bs) = s (keeping c range (good bs))
 
   -- one instruction
-  step-same : {i : Instruction} (x : Kind i) (is : List Instruction) (m j : ℕ) (c : Ctx) → fits m j x is ≡ true → Clear m j c
-      → ((c′ : Ctx) → Clear (repliesBy x) (slotBy x) c′ → Same is c′)
+  step-same : {i : Instruction} (x : Kind i) (is : List Instruction) (m j : ℕ) (c : Context) → fits m j x is ≡ true → Clear m j c
+      → ((c′ : Context) → Clear (repliesBy x) (slotBy x) c′ → Same is c′)
       → resume fin zero (opOf i ∷ map opOf is) c ≡ resume fin zero (onceBy x ∷ map onceOf is) c
   step-same (timing zero k) is m j c h p s = clash cc
   step-same (timing (suc n) k) is m j c h p s =
       send-same _ _
       (λ bs.
-      let c′ : Ctx = keeping c (opOf (Instruction.ReadTiming (suc n) k)) (good bs) in
+      let c′ : Context = keeping c (opOf (Instruction.ReadTiming (suc n) k)) (good bs) in
       place-same (firstPlace (timingIn k (c′ .carried)) (suc n)) 0 c′ _ _ (λ e. s c′ e)
       ∙ first-agrees (timingIn k (c′ .carried)) n (stays n k m j c bs h p) 0 c′ _)
   step-same (last k) is m j c h p s =
       let q = both (follows 6 k m j) (plainAfter (overLast k) is) h in
       send-same _ _
       (λ bs.
-      let c′ : Ctx = keeping c (opOf (Instruction.ReadLast k)) (good bs) in
+      let c′ : Context = keeping c (opOf (Instruction.ReadLast k)) (good bs) in
       let t : Same is c′ = s c′ (none-known _) in
       verdict-same (byWord (noTime k) (wordToSet k c′)) (overLast k) c′ _ _ t (leap-same (overLast k) is c′ (q .1) t)
       ∙ word-agrees (noTime k) (timingIn k (c′ .carried)) (budgetToSet k c′) (stays 5 k m j c bs (q .0) p) (overLast k) c′ _)
   step-same (other {i}) is m j c h p s = other-same (opOf i) is c h (λ c′. s c′ (none-known _))
 
-  once : (is : List Instruction) (m j : ℕ) (c : Ctx) → ordered m j is ≡ true → Clear m j c → Same is c
+  once : (is : List Instruction) (m j : ℕ) (c : Context) → ordered m j is ≡ true → Clear m j c → Same is c
   once [] m j c h p = refl
   once (i ∷ is) m j c h p =
       let q = both (fits m j (kindOf i) is) (ordered (repliesBy (kindOf i)) (slotBy (kindOf i)) is) h in
@@ -178,6 +178,6 @@ all-ordered : (code : ℕ) → Ordered code (programOf code)
 unfolding programs tuning
 all-ordered = of-table Ordered (λ k. refl) (refl, (refl, (refl, (refl, (refl, (refl, (refl, (refl, (refl, (refl, (refl, (refl, (refl, (refl, (refl, (refl, tt))))))))))))))))
 
-pub made-once : (code : ℕ) (c : Ctx)
+pub made-once : (code : ℕ) (c : Context)
     → resume (programOf code .final) zero (opsOf (programOf code)) c ≡ resume (programOf code .final) zero (map onceOf (programOf code .steps)) c
 made-once code c = once (programOf code .final) (programOf code .steps) 0 0 c (all-ordered code) (none-known _)

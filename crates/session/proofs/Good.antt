@@ -13,7 +13,7 @@ use lib.Seq.{drop-drop}
 use Rattle.session.specs.Bus.{Transfer, Reply, bad, good, Condition, detectorReady, statusReady, started, waitLimit, idleOn}
 use Rattle.session.specs.Instructions.{Verdict, onward, leap, stop, test, Op, write, read, wait, range, Final, success, failure, sendOf, costOf, worst}
 use Rattle.session.specs.Calls.{Program, opsOf, tuning, programs, programOf, ceilings, ceilingOf, argumentsOk}
-use Rattle.session.specs.Machine.{Session, Outcome, sent, answered, refused, broken, ctxOf, keptOf, sending, conclude, enter, arrive, decide, react, idleWrong, upWrong, malformed, begun, notUp}
+use Rattle.session.specs.Machine.{Session, Outcome, sent, answered, refused, broken, contextOf, keptOf, sending, conclude, enter, arrive, decide, react, idleWrong, upWrong, malformed, begun, notUp}
 use Rattle.session.proofs.Facts.{cond-case, or-false, not-of-true, drop-next}
 use Rattle.session.proofs.Table.{of-table, code-nonzero}
 
@@ -145,7 +145,7 @@ pub record StillGood (t : Transfer) (s : Session) : Type 0 where
   pub op : Op
   pub rest : List Op
   pub good : Good s op rest
-  pub is : t ≡ sendOf op (ctxOf s)
+  pub is : t ≡ sendOf op (contextOf s)
 
 abbrev pub GoodOut : Outcome → Type 0
 GoodOut (sent t s) = StillGood t s
@@ -162,7 +162,7 @@ unfolding arrive
 arrive-goes s k n = go (drop k (opsOf (programOf (s .code)))) refl
   where
     go : (l : List Op) → drop k (opsOf (programOf (s .code))) ≡ l → GoodOut (enter (programOf (s .code) .final) l k s)
-    go [] e = conclude-goes (programOf (s .code) .final (ctxOf s)) s
+    go [] e = conclude-goes (programOf (s .code) .final (contextOf s)) s
     go (op ∷ rest) e = record { op = op; rest = rest; good = arrive-good s k op rest n e; is = refl }
 
 pub decide-goes : (v : Verdict) (s : Session) (over k : ℕ) → Between s k → GoodOut (decide v (programOf (s .code)) over k s)
@@ -173,11 +173,11 @@ decide-goes (test t v w) s over k b = cond-case GoodOut t (λ e. decide-goes v s
 
 pub react-goes : (s : Session) (op : Op) (rest : List Op) (r : Reply) → Good s op rest → GoodOut (react op (programOf (s .code)) s r)
 react-goes s (write reg bytes len over after) rest (bad e) g = tt
-react-goes s (write reg bytes len over after) rest (good bs) g = decide-goes (after (ctxOf s)) s over (suc (s .step)) (between-next s (write reg bytes len over after) rest g)
+react-goes s (write reg bytes len over after) rest (good bs) g = decide-goes (after (contextOf s)) s over (suc (s .step)) (between-next s (write reg bytes len over after) rest g)
 react-goes s (read reg len slot over after) rest (bad e) g = tt
 react-goes s (read reg len slot over after) rest (good bs) g =
     let op : Op = read reg len slot over after in
-    decide-goes (after (ctxOf (keptOf s op (good bs)))) (keptOf s op (good bs)) over (suc (s .step)) (between-kept s op rest op (good bs) g)
+    decide-goes (after (contextOf (keptOf s op (good bs)))) (keptOf s op (good bs)) over (suc (s .step)) (between-kept s op rest op (good bs) g)
 react-goes s (wait w) rest (bad e) g = tt
 react-goes s (wait w) rest (good bs) g =
     cond-case GoodOut (idleOn w bs)

@@ -6,7 +6,7 @@ use borrow.Author.Tests.{not-false}
 use lib.ListN.{drop}
 use Rattle.session.specs.Instructions.{Op, sendOf}
 use Rattle.session.specs.Calls.{opsOf, programOf, argumentsOk}
-use Rattle.session.specs.Machine.{Session, Outcome, sent, answered, refused, broken, ctxOf, toReply, stray, onOps, idleWrong, malformed, waitsNow, illFormed, replyDef, begun, notUp, beginDef, otherDef}
+use Rattle.session.specs.Machine.{Session, Outcome, sent, answered, refused, broken, contextOf, toReply, stray, onOps, idleWrong, malformed, waitsNow, illFormed, replyDef, begun, notUp, beginDef, otherDef}
 use Rattle.session.specs.Records.{Record, call, reply, other, stepDef}
 use Rattle.session.proofs.Facts.{cond-case, untrue}
 use Rattle.session.proofs.Accepts.{decide-all, react-all}
@@ -25,7 +25,7 @@ ill-is s (call code a b) =
     (λ e. cond-case (IllOf s) (not (argumentsOk code a b)) (λ e₁. e)
     (λ e₁. cond-case (IllOf s) (waitsNow s) (λ e₂. e)
     (λ e₂. cond-case (IllOf s) (notUp code (s .driver .up)) (λ e₃. e)
-    (λ e₃. decide-all (IllOf s) code (λ t x. e) (λ v n d. e) (λ y x q. e) (programOf code .entry (ctxOf (begun s code a b))) (programOf code) 0 0 (begun s code a b) refl))))
+    (λ e₃. decide-all (IllOf s) code (λ t x. e) (λ v n d. e) (λ y x q. e) (programOf code .entry (contextOf (begun s code a b))) (programOf code) 0 0 (begun s code a b) refl))))
 ill-is s (reply f bs) =
     cond-case (IllOf s) (illFormed s) (λ e. e)
     (λ e. cond-case (IllOf s) (not (waitsNow s)) (λ e₁. e)
@@ -37,6 +37,6 @@ ill-is s (reply f bs) =
     go : illFormed s ≡ false → (l : List Op) → idleWrong (s .code) l (s .idle) ≡ false → IllOf s (onOps l (programOf (s .code)) s f bs)
     go e [] h = untrue (sym h)
     go e (op ∷ l) h =
-        cond-case (IllOf s) (stray (sendOf op (ctxOf s)) f bs) (λ q. e)
+        cond-case (IllOf s) (stray (sendOf op (contextOf s)) f bs) (λ q. e)
         (λ q. react-all (IllOf s) (s .code) (λ t x. e) (λ v n d. e) (λ y x z. e) op (programOf (s .code)) s (toReply f bs) refl)
 ill-is s other = cond-case (IllOf s) (illFormed s) (λ e. e) (λ e. e)

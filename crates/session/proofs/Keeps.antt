@@ -10,7 +10,7 @@ use borrow.Author.Tests.{not-false}
 use Rattle.session.specs.Bus.{Driver, Transfer, Answer, byte, absent}
 use Rattle.session.specs.Instructions.{Op, sendOf}
 use Rattle.session.specs.Calls.{opsOf, programOf, argumentsOk}
-use Rattle.session.specs.Machine.{Session, Outcome, sent, answered, refused, broken, resting, ctxOf, decide, react, toReply, stray, replyDef, begun, notUp, beginDef, otherDef}
+use Rattle.session.specs.Machine.{Session, Outcome, sent, answered, refused, broken, resting, contextOf, decide, react, toReply, stray, replyDef, begun, notUp, beginDef, otherDef}
 use Rattle.session.specs.Records.{Record, call, reply, other, stepDef}
 use Rattle.session.specs.History.{Got, transfer, answer, refusal, isTransfer, isRefused, isAcceptedCall, isAcceptedReply, Exchange, by, waiting, ended, CallRun, joined, waitingIn, transfersOf}
 use Rattle.session.specs.Claim3.{isUp, BegunUp, All, Lawful, sumOf, repliesOf}
@@ -28,7 +28,7 @@ use Rattle.session.proofs.React.{react-fine}
 pub data Now (s : Session) : List CallRun → Type 0 where
   rests : {cs : List CallRun} → s ≡ resting (s .driver) → waitingIn cs ≡ 0 → Now s cs
   waits : {cs : List CallRun} (op : Op) (rest : List Op) {ex : List Exchange} → Match s op rest ex (fieldsOf cs) → waitingIn cs ≡ 0
-      → Now s (runOf (s .code) (s .a) (s .b) ex (waiting (sendOf op (ctxOf s))) ∷ cs)
+      → Now s (runOf (s .code) (s .a) (s .b) ex (waiting (sendOf op (contextOf s))) ∷ cs)
 
 pub record Inv (s : Session) (cs : List CallRun) (t r : ℕ) : Type 0 where
   pub sum : t ≡ r + waitingIn cs
@@ -126,7 +126,7 @@ told-begun code = go (opsOf (programOf code)) refl (opens-law code)
     go (op ∷ rest) e h = told-first code op rest (known-at code 0 op rest e) h
 
 begun-fine : (s : Session) (code a b : ℕ) (d : Driver) → s .driver ≡ d → argumentsOk code a b ≡ true → notUp code (s .driver .up) ≡ false
-    → Fine code a b [] d (decide (programOf code .entry (ctxOf (begun s code a b))) (programOf code) 0 0 (begun s code a b))
+    → Fine code a b [] d (decide (programOf code .entry (contextOf (begun s code a b))) (programOf code) 0 0 (begun s code a b))
 begun-fine s code a b d e h u =
     decide-fine (begun s code a b) 0 [] d
     (record {
@@ -139,7 +139,7 @@ begun-fine s code a b d e h u =
       phase = clean tt;
       driver = ap (λ x. cond (eqb code 1) absent x) e;
     })
-    tt 0 ahead (programOf code .entry (ctxOf (begun s code a b)))
+    tt 0 ahead (programOf code .entry (contextOf (begun s code a b)))
   where
     ahead : Ahead (begun s code a b) 0 []
     ahead =
@@ -162,7 +162,7 @@ begin-ok s code a b cs t r i (rests e w) =
     (λ h. refused-ok s (call code a b) cs t r Answer.IllFormedRecord i)
     (λ h. cond-case (StepOk s (call code a b) cs t r) (notUp code (s .driver .up))
     (λ u. refused-ok s (call code a b) cs t r Answer.NotUp i)
-    (λ u. call-ok s code a b cs t r w (i .sum) (i .made) (i .heard) (i .lawful) (begun-while-up code (isUp cs) (subst (λ z. notUp code z ≡ false) (ap (λ z. z .up) (i .driver) ∙ up-is cs) u), i .begun-up) (decide (programOf code .entry (ctxOf (begun s code a b))) (programOf code) 0 0 (begun s code a b)) (begun-fine s code a b (fieldsOf cs) (i .driver) (not-false (argumentsOk code a b) h) u))))
+    (λ u. call-ok s code a b cs t r w (i .sum) (i .made) (i .heard) (i .lawful) (begun-while-up code (isUp cs) (subst (λ z. notUp code z ≡ false) (ap (λ z. z .up) (i .driver) ∙ up-is cs) u), i .begun-up) (decide (programOf code .entry (contextOf (begun s code a b))) (programOf code) 0 0 (begun s code a b)) (begun-fine s code a b (fieldsOf cs) (i .driver) (not-false (argumentsOk code a b) h) u))))
 begin-ok s code a b cs t r i (waits op rest m w) =
     rw (code-test (s .code) (s .a) (s .b) (m .good .args), good-sound s op rest (m .good))
     (cond-case (StepOk s (call code a b) cs t r) (not (argumentsOk code a b))
@@ -174,9 +174,9 @@ unfolding replyDef
 answer-ok s f bs cs t r i (rests e w) = rw (none-waits s e) (refused-ok s (reply f bs) cs t r Answer.NoCallWaits i)
 answer-ok s f bs cs t r i (waits {cs = cs′} op rest {ex} m w) =
     rw (code-test (s .code) (s .a) (s .b) (m .good .args), good-sound s op rest (m .good), m .good .at)
-    (cond-case (StepOk s (reply f bs) cs t r) (stray (sendOf op (ctxOf s)) f bs)
+    (cond-case (StepOk s (reply f bs) cs t r) (stray (sendOf op (contextOf s)) f bs)
     (λ h. refused-ok s (reply f bs) cs t r Answer.StrayByte i)
-    (λ h. reply-ok s (sendOf op (ctxOf s)) f bs ex cs′ t r w (i .sum) (i .made) (i .heard) (i .lawful .1) (i .begun-up) (react op (programOf (s .code)) s (toReply f bs)) (react-fine s op rest ex (fieldsOf cs′) m (toReply f bs))))
+    (λ h. reply-ok s (sendOf op (contextOf s)) f bs ex cs′ t r w (i .sum) (i .made) (i .heard) (i .lawful .1) (i .begun-up) (react op (programOf (s .code)) s (toReply f bs)) (react-fine s op rest ex (fieldsOf cs′) m (toReply f bs))))
 
 other-ok : (s : Session) (cs : List CallRun) (t r : ℕ) → Inv s cs t r → Now s cs → StepOk s other cs t r (otherDef s)
 unfolding otherDef

@@ -8,7 +8,7 @@ use native.Mathlib.Omega.{arith}
 use lib.Dec.{eqb}
 use lib.ListN.{drop}
 use Rattle.session.specs.Bus.{Driver, withAddress, withBudget}
-use Rattle.session.specs.Instructions.{Ctx, Op, write, read, wait, range, Final, success, failure}
+use Rattle.session.specs.Instructions.{Context, Op, write, read, wait, range, Final, success, failure}
 use Rattle.session.specs.Steps.{slot, opOf}
 use Rattle.session.specs.Calls.{Program, opsOf, clearing, tuning, broughtUp, byCode, programs, programOf}
 use Rattle.session.proofs.Facts.{clash}
@@ -18,10 +18,10 @@ abbrev pub clearOps : List Op
 clearOps = map opOf clearing
 
 -- after the range read come the two clearing writes and the end, which reports a failed range read
-abbrev pub Tidies : (Ctx → Final) → List Op → Type 0
-Tidies fin ops = (ops ≡ clearOps) × ((c : Ctx) (e : ℕ) → c .failed ≡ suc e → fin c ≡ failure (suc e))
+abbrev pub Tidies : (Context → Final) → List Op → Type 0
+Tidies fin ops = (ops ≡ clearOps) × ((c : Context) (e : ℕ) → c .failed ≡ suc e → fin c ≡ failure (suc e))
 
-abbrev pub RangeLaw : (Ctx → Final) → List Op → Type 0
+abbrev pub RangeLaw : (Context → Final) → List Op → Type 0
 RangeLaw fin [] = Unit {0}
 RangeLaw fin (write reg bytes len over after ∷ ops) = RangeLaw fin ops
 RangeLaw fin (read reg len slot over after ∷ ops) = RangeLaw fin ops
@@ -38,7 +38,7 @@ range-law =
     (tt, (tt, (tt, (tt, (tt, (tt, ((refl, λ c e h. rw h), ((refl, λ c e h. rw h), ((refl, λ c e h. rw h), (tt, (tt, (tt, (tt, (tt, (tt, (tt, tt))))))))))))))))
 
 -- at any position
-pub range-at : (fin : Ctx → Final) (k : ℕ) (l : List Op) {rest : List Op} → RangeLaw fin l → drop k l ≡ range ∷ rest → Tidies fin rest
+pub range-at : (fin : Context → Final) (k : ℕ) (l : List Op) {rest : List Op} → RangeLaw fin l → drop k l ≡ range ∷ rest → Tidies fin rest
 range-at fin zero [] h e = clash cc
 range-at fin zero (write reg bytes len over after ∷ l) h e = clash cc
 range-at fin zero (read reg len slot over after ∷ l) h e = clash cc
@@ -60,18 +60,18 @@ range-at fin (suc k) (range ∷ l) {rest} h e = tail-free k (rw (h .0) at e)
 abbrev pub leaves : ℕ → ℕ → List ℕ → ℕ → Driver → Driver
 leaves code a l own d = cond (eqb code 1) (broughtUp a l own) (cond (eqb code 3) (withAddress d a) (cond (eqb code 9) (withBudget d a) d))
 
-abbrev pub FinalOk : ℕ → Ctx → Final → Type 0
+abbrev pub FinalOk : ℕ → Context → Final → Type 0
 FinalOk code c (success v d) = (d ≡ leaves code (c .a) (c .carried) (c .own) (c .driver)) × (code ≡ 15 → v ≡ c .own)
 FinalOk code c (failure e) = Unit {0}
 
-kept-code : (n code : ℕ) (c : Ctx) (f : Final) → FinalOk code c f → FinalOk code c (byCode n f)
+kept-code : (n code : ℕ) (c : Context) (f : Final) → FinalOk code c f → FinalOk code c (byCode n f)
 kept-code zero code c f h = h
 kept-code (suc e) code c f h = tt
 
 abbrev LeavesOk : ℕ → Program → Type 0
-LeavesOk code p = (c : Ctx) → FinalOk code c (p .final c)
+LeavesOk code p = (c : Context) → FinalOk code c (p .final c)
 
-pub final-law : (code : ℕ) (c : Ctx) → FinalOk code c (programOf code .final c)
+pub final-law : (code : ℕ) (c : Context) → FinalOk code c (programOf code .final c)
 unfolding programs
 final-law =
     of-table LeavesOk (λ k c. tt)

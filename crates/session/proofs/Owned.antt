@@ -12,7 +12,7 @@ use Rattle.budget.specs.Budget.{measurementTimingBudget}
 use Rattle.timing.specs.Timeouts.{timeIn}
 use Rattle.timing.specs.Registers.{registersOf}
 use Rattle.session.specs.Bus.{byte, Reply, bad, good, Condition}
-use Rattle.session.specs.Instructions.{Ctx, Op, write, read, wait, range, timingSlot, bytesFrom, put, budgetIn, sendOf, keptBytes, keptBudget}
+use Rattle.session.specs.Instructions.{Context, Op, write, read, wait, range, timingSlot, bytesFrom, put, budgetIn, sendOf, keptBytes, keptBudget}
 use Rattle.session.specs.Calls.{opsOf, programOf}
 use Rattle.session.specs.History.{Exchange, by}
 use Rattle.session.specs.Claim3.{wasRead}
@@ -90,7 +90,7 @@ first-of : (found : Bool) (op : Op) (ops : List Op) → ownOk found (op ∷ ops)
 first-of found op ops h =
     both (cond found (misses bytes8 op) (cond (asksOp 0x70 op) (lastOne op) true)) (cond (leaps op) (found || asksOp 0x70 op) true && ownOk (found || asksOp 0x70 op) ops) h .0
 
-pub own-step : (op : Op) (rest : List Op) (c : Ctx) (r : Reply) (l : List ℕ) (own : ℕ) (ex : List Exchange) → full op c ≡ true → GoesOn op r
+pub own-step : (op : Op) (rest : List Op) (c : Context) (r : Reply) (l : List ℕ) (own : ℕ) (ex : List Exchange) → full op c ≡ true → GoesOn op r
     → Owned own l (op ∷ rest) ex → Owned (keptBudget op r l own) (keptBytes op r l) rest (by (sendOf op c) r ∷ ex)
 own-step op rest c r l own ex f g d =
     record {
@@ -105,7 +105,7 @@ own-step op rest c r l own ex f g d =
     go false true e q h = own-found op r l own g (rw (e, q) at (first-of (wasRead 0x70 ex) op rest (d .law)))
     go false false e q h = clash cc
 
-pub own-again : (own : ℕ) (l : List ℕ) (w : Condition) (rest : List Op) (c : Ctx) (r : Reply) (ex : List Exchange)
+pub own-again : (own : ℕ) (l : List ℕ) (w : Condition) (rest : List Op) (c : Context) (r : Reply) (ex : List Exchange)
     → Owned own l (wait w ∷ rest) ex → Owned own l (wait w ∷ rest) (by (sendOf (wait w) c) r ∷ ex)
 own-again own l w rest c r ex d = go (wasRead 0x70 ex) (asksOp 0x70 (wait w)) refl refl
   where
@@ -120,7 +120,7 @@ own-drop (suc n) [] h = h
 own-drop (suc n) (op ∷ ops) h = own-drop n ops (rest-of true op ops h .1)
 
 -- an operation that can skip stands only after that read
-pub own-leap : (op : Op) (rest : List Op) (c : Ctx) (r : Reply) (l : List ℕ) (own n : ℕ) (ex : List Exchange) → full op c ≡ true → GoesOn op r
+pub own-leap : (op : Op) (rest : List Op) (c : Context) (r : Reply) (l : List ℕ) (own n : ℕ) (ex : List Exchange) → full op c ≡ true → GoesOn op r
     → leaps op ≡ true → Owned own l (op ∷ rest) ex → Owned (keptBudget op r l own) (keptBytes op r l) (drop n rest) (by (sendOf op c) r ∷ ex)
 own-leap op rest c r l own n ex f g a d =
     let s : Owned (keptBudget op r l own) (keptBytes op r l) rest (by (sendOf op c) r ∷ ex) = own-step op rest c r l own ex f g d in

@@ -5,7 +5,7 @@ use mathlib.Core.List.{List, [], _∷_}
 use Prim.Native.Nat.{ℕ, suc}
 use lib.Dec.{eqb}
 use Rattle.session.specs.Bus.{Transfer, Answer, transferOf, Reply, bad, good}
-use Rattle.session.specs.Instructions.{Instruction, Ctx, Verdict, Op, write, read, wait, range, failure, sendOf}
+use Rattle.session.specs.Instructions.{Instruction, Context, Verdict, Op, write, read, wait, range, failure, sendOf}
 use Rattle.session.specs.Steps.{slot, pass, opOf}
 use Rattle.session.specs.Calls.{programOf}
 use Rattle.session.specs.History.{Exchange, by, Standing, waiting, ended}
@@ -33,7 +33,7 @@ clearOp b = opOf (Instruction.Write 0x0B b)
 -- a call with a range read, and its end after a failed one
 pub record Ranged (code : ℕ) : Type 0 where
   pub inside : eqb code 6 || eqb code 7 || eqb code 8 ≡ true
-  pub final : (c : Ctx) (e : ℕ) → c .failed ≡ suc e → programOf code .final c ≡ failure (suc e)
+  pub final : (c : Context) (e : ℕ) → c .failed ≡ suc e → programOf code .final c ≡ failure (suc e)
 
 -- over the operations that are left and the exchanges so far
 pub data Phase (code : ℕ) (ops : List Op) : List Exchange → Type 0 where
@@ -59,7 +59,7 @@ phase-cleared code n adr e adr′ bs adr″ bs′ ex r g =
     rw (r .inside) (tt, (tt, (both-good (clearSent adr′ 1) bs (clearSent adr″ 0) bs′ n refl refl, good-any code _ ex _ g)))
 
 -- it waits for the operation `op`
-pub phase-waiting : (code : ℕ) (op : Op) (rest : List Op) (ex : List Exchange) (c : Ctx) → Phase code (op ∷ rest) ex → Failures code [] ex (waiting (sendOf op c))
+pub phase-waiting : (code : ℕ) (op : Op) (rest : List Op) (ex : List Exchange) (c : Context) → Phase code (op ∷ rest) ex → Failures code [] ex (waiting (sendOf op c))
 phase-waiting code op rest ex c (clean g) = good-any code [] ex _ g
 phase-waiting code op rest ex c (tidy0 {ex = ex′} r adr e q g) =
     let h : op ≡ clearOp 1 = cc in rw (h, r .inside) (first-out _ refl, good-any code _ ex′ _ g)
@@ -68,7 +68,7 @@ phase-waiting code op rest ex c (tidy1 {ex = ex′} r adr e adr′ bs q g) =
 phase-waiting code op rest ex c (tidy2 r adr e adr′ bs adr″ bs′ q g) = clash cc
 
 -- that operation fails
-pub phase-failed : (code : ℕ) (op : Op) (rest : List Op) (ex : List Exchange) (c : Ctx) (k n : ℕ) → Phase code (op ∷ rest) ex
+pub phase-failed : (code : ℕ) (op : Op) (rest : List Op) (ex : List Exchange) (c : Context) (k n : ℕ) → Phase code (op ∷ rest) ex
     → Failures code (by (sendOf op c) (bad k) ∷ []) ex (ended (Answer.BusError (reported code (rangeFailure code ex) (suc k))) n)
 phase-failed code op rest ex c k n (clean g) = good-any code _ ex _ g
 phase-failed code op rest ex c k n (tidy0 {ex = ex′} r adr e q g) =
@@ -78,11 +78,11 @@ phase-failed code op rest ex c k n (tidy1 {ex = ex′} r adr e adr′ bs q g) =
 phase-failed code op rest ex c k n (tidy2 r adr e adr′ bs adr″ bs′ q g) = clash cc
 
 -- a write that succeeds: with no failure before it, or one of the two clearing writes, after which the call goes on
-pub data AfterWrite (code : ℕ) (after : Ctx → Verdict) (rest : List Op) (t : Transfer) (bs : List ℕ) (ex : List Exchange) : Type 0 where
+pub data AfterWrite (code : ℕ) (after : Context → Verdict) (rest : List Op) (t : Transfer) (bs : List ℕ) (ex : List Exchange) : Type 0 where
   cleanly : AllGood ex → AfterWrite code after rest t bs ex
   tidily : after ≡ pass → Phase code rest (by t (good bs) ∷ ex) → AfterWrite code after rest t bs ex
 
-pub phase-write : (code reg : ℕ) (bytes : Ctx → List ℕ) (len over : ℕ) (after : Ctx → Verdict) (rest : List Op) (ex : List Exchange) (c : Ctx) (bs : List ℕ)
+pub phase-write : (code reg : ℕ) (bytes : Context → List ℕ) (len over : ℕ) (after : Context → Verdict) (rest : List Op) (ex : List Exchange) (c : Context) (bs : List ℕ)
     → Phase code (write reg bytes len over after ∷ rest) ex → AfterWrite code after rest (sendOf (write reg bytes len over after) c) bs ex
 phase-write code reg bytes len over after rest ex c bs (clean g) = cleanly g
 phase-write code reg bytes len over after rest ex c bs (tidy0 {ex = ex′} r adr e q g) =

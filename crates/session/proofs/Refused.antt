@@ -12,7 +12,7 @@ use Rattle.session.specs.Bus.{Answer, waitLimit, zeroFrom, cleanFrom}
 use Rattle.session.specs.Instructions.{Op, write, read, wait, range, sendOf}
 use Rattle.session.specs.Steps.{slot}
 use Rattle.session.specs.Calls.{Program, opsOf, tuning, nothing, programs, programOf, ceilings, ceilingOf, argumentsOk}
-use Rattle.session.specs.Machine.{Session, Outcome, sent, answered, refused, broken, ctxOf, decide, react, toReply, stray, onOps, idleWrong, upWrong, malformed, waitsNow, illFormed, replyDef, begun, notUp, beginDef, otherDef}
+use Rattle.session.specs.Machine.{Session, Outcome, sent, answered, refused, broken, contextOf, decide, react, toReply, stray, onOps, idleWrong, upWrong, malformed, waitsNow, illFormed, replyDef, begun, notUp, beginDef, otherDef}
 use Rattle.session.specs.Records.{Record, call, reply, other, stepDef}
 use Rattle.session.specs.Refusals.{ranges, inRange, limitRows, lengthRows, ceilingRows, busy, idleBad, forRecord, refusals, firstOf}
 use Rattle.session.specs.Claim1.{Single, one-refusal, refusalNumber, Accepts}
@@ -95,7 +95,7 @@ reads-is (suc k) [] op rest e = clash cc
 reads-is zero (x ∷ l) op rest e = let q : op ≡ x = cc in ap lengthOf q
 reads-is (suc k) (x ∷ l) op rest e = reads-is k l op rest e
 
-asked : (op : Op) (s : Session) → sendOf op (ctxOf s) .reads ≡ lengthOf op
+asked : (op : Op) (s : Session) → sendOf op (contextOf s) .reads ≡ lengthOf op
 asked (write reg bytes len over after) s = refl
 asked (read reg len slot over after) s = refl
 asked (wait w) s = refl
@@ -189,8 +189,8 @@ on-ops s f bs m = go (drop (s .step) (opsOf (programOf (s .code)))) refl (sound-
         → refusalNumber (onOps l (programOf (s .code)) s f bs) ≡ cond (not (zeroFrom (cleanFrom f (getD (getD lengthRows (s .code) []) (s .step) 0)) bs)) 12 0
     go [] e i = untrue (sym i)
     go (op ∷ rest) e i =
-        cond-at refusalNumber (stray (sendOf op (ctxOf s)) f bs) (not (zeroFrom (cleanFrom f (getD (getD lengthRows (s .code) []) (s .step) 0)) bs))
-        (stray-is (sendOf op (ctxOf s)) f bs
+        cond-at refusalNumber (stray (sendOf op (contextOf s)) f bs) (not (zeroFrom (cleanFrom f (getD (getD lengthRows (s .code) []) (s .step) 0)) bs))
+        (stray-is (sendOf op (contextOf s)) f bs
         ∙ ap (λ n. not (zeroFrom (cleanFrom f n) bs)) (asked op s ∙ reads-is (s .step) (opsOf (programOf (s .code))) op rest e ∙ ap (λ l. getD l (s .step) 0) (lengths-are (s .code))))
         refl (accepted-0 (react op (programOf (s .code)) s (toReply f bs)) (react-accepts op (programOf (s .code)) s (toReply f bs)))
 
@@ -202,7 +202,7 @@ refused-by-table s (call code a b) =
     (cond-at refusalNumber (not (argumentsOk code a b)) (not (inRange code a b ranges)) (ap not (range-is code a b)) refl
     (cond-at refusalNumber (waitsNow s) (busy s) refl refl
     (cond-at refusalNumber (notUp code (s .driver .up)) (not (eqb code 1) && not (s .driver .up)) (not-up-is code (s .driver .up)) refl
-    (accepted-0 (decide (programOf code .entry (ctxOf (begun s code a b))) (programOf code) 0 0 (begun s code a b)) (decide-accepts (programOf code .entry (ctxOf (begun s code a b))) (programOf code) 0 0 (begun s code a b))))))
+    (accepted-0 (decide (programOf code .entry (contextOf (begun s code a b))) (programOf code) 0 0 (begun s code a b)) (decide-accepts (programOf code .entry (contextOf (begun s code a b))) (programOf code) 0 0 (begun s code a b))))))
     ∙ sym (table-is s (call code a b))
 refused-by-table s (reply f bs) = go (waitsNow s) (malformed s) refl ∙ sym (table-is s (reply f bs))
   where

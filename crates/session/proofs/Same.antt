@@ -9,25 +9,25 @@ use Rattle.spad.specs.Masks.{eachBit, orByte}
 use Rattle.spad.proofs.Loop.{loop-selects}
 use Rattle.timing.specs.Places.{entriesOf, lessPlace}
 use Rattle.session.specs.Bus.{Driver, byte, idleOn, absent}
-use Rattle.session.specs.Instructions.{Ctx}
+use Rattle.session.specs.Instructions.{Context}
 use Rattle.session.specs.Calls.{tuning, programs, programOf}
 use Rattle.session.specs.Machine.{zeros}
 use Rattle.session.specs.Script.{Script}
 use Rattle.session.specs.RustClocks.{limit-contained}
 use Rattle.session.specs.RustBringUp.{enable-ref-spads, calls, rust}
-use Rattle.session.specs.Left.{decideS, resume}
+use Rattle.session.specs.Left.{decided, resume}
 use Rattle.session.proofs.Once.{onceOf}
 use Rattle.session.proofs.Formulas.{period-is}
 use Rattle.session.proofs.Bits.{or-is, and-is, no-interrupt-is, start-bit-is, spad-count-is, aperture-is, raw-is, mm-is}
 use Rattle.session.proofs.RateLimit.{accepted-is, refused-is, quarter-in, quarter-word}
 use Rattle.session.proofs.BudgetCalls.{get-is, set-is}
 
-abbrev pub fresh : ℕ → Driver → ℕ → ℕ → ℕ → Ctx
+abbrev pub fresh : ℕ → Driver → ℕ → ℕ → ℕ → Context
 fresh code d adr a b = record { code = code; driver = d; address = adr; a = a; b = b; failed = 0; own = 0; carried = zeros }
 
 -- a call from its start, each test made once
-abbrev pub script : ℕ → Ctx → Script
-script code c = decideS (programOf code .entry c) 0 c (λ n. resume (programOf code .final) n (map onceOf (programOf code .steps)) c)
+abbrev pub script : ℕ → Context → Script
+script code c = decided (programOf code .entry c) 0 c (λ n. resume (programOf code .final) n (map onceOf (programOf code .steps)) c)
 
 spads-are : enable-ref-spads
     ≡ (λ count aperture bytes. selected (byte 0 bytes ∷ byte 1 bytes ∷ byte 2 bytes ∷ byte 3 bytes ∷ byte 4 bytes ∷ byte 5 bytes ∷ []) count (not (eqb aperture 0)))

@@ -6,7 +6,7 @@ use Prim.Native.Nat.{ℕ, zero, suc}
 use lib.Dec.{eqb}
 use lib.ListN.{drop}
 use Rattle.session.specs.Bus.{transferOf, Condition, detectorReady, statusReady, started, waitRegister}
-use Rattle.session.specs.Instructions.{Ctx, Op, write, read, wait, range, sendOf}
+use Rattle.session.specs.Instructions.{Context, Op, write, read, wait, range, sendOf}
 use Rattle.session.specs.Steps.{slot}
 use Rattle.session.specs.Calls.{Program, opsOf, tuning, programs, programOf}
 use Rattle.session.specs.Claim3.{wrote, asks}
@@ -67,7 +67,7 @@ abbrev pub filled : List ℕ → Bool
 filled [] = false
 filled (b ∷ bs) = true
 
-abbrev pub full : Op → Ctx → Bool
+abbrev pub full : Op → Context → Bool
 full (write reg bytes len over after) c = filled (bytes c)
 full (read reg len slot over after) c = true
 full (wait w) c = true
@@ -84,13 +84,13 @@ abbrev pub rangeAs : ℕ → Op → Bool
 rangeAs code op = sameBool (asksOp 0x1E op && (eqb code 6 || eqb code 7 || eqb code 8)) (isRange op)
 
 -- an operation that asks for 0x83 in call 1 is the detector wait exactly if the one before it writes 83 00
-abbrev pub edge : ℕ → Op → Ctx → Op → Bool
+abbrev pub edge : ℕ → Op → Context → Op → Bool
 edge code prev c next =
     cond (asksOne 0x83 next && eqb code 1)
     (not (asksOne 0x83 prev) && sameBool (wrote (0x83 ∷ 0x00 ∷ []) (sendOf prev c)) (waitsOn detectorReady next))
     (not (waitsOn detectorReady next))
 
-abbrev pub leads : ℕ → Op → Ctx → List Op → Bool
+abbrev pub leads : ℕ → Op → Context → List Op → Bool
 leads code op c [] = true
 leads code op c (next ∷ rest) = edge code op c next
 
@@ -115,17 +115,17 @@ leaps op = not (eqb (overOf op) 0)
 abbrev pub landsOk : Op → List Op → Bool
 landsOk op ops = cond (leaps op) (isWrite (drop (overOf op) ops)) true
 
-abbrev pub tells : ℕ → Op → Ctx → Bool
+abbrev pub tells : ℕ → Op → Context → Bool
 tells code op c = statusAs code op && (startAs code op && (rangeAs code op && full op c))
 
-abbrev pub steady : ℕ → List Op → Ctx → Bool
+abbrev pub steady : ℕ → List Op → Context → Bool
 steady code [] c = true
 steady code (op ∷ ops) c = (tells code op c && (leads code op c ops && landsOk op ops)) && steady code ops c
 
 abbrev SteadyOk : ℕ → Program → Type 0
-SteadyOk code p = (c : Ctx) → steady code (opsOf p) c ≡ true
+SteadyOk code p = (c : Context) → steady code (opsOf p) c ≡ true
 
-pub steady-law : (code : ℕ) (c : Ctx) → steady code (opsOf (programOf code)) c ≡ true
+pub steady-law : (code : ℕ) (c : Context) → steady code (opsOf (programOf code)) c ≡ true
 unfolding programs tuning
 steady-law =
     of-table SteadyOk (λ k c. refl)
@@ -145,13 +145,13 @@ opens-law =
     of-table OpensOk (λ k. refl)
     (refl, (refl, (refl, (refl, (refl, (refl, (refl, (refl, (refl, (refl, (refl, (refl, (refl, (refl, (refl, (refl, tt))))))))))))))))
 
-steady-drop : (code k : ℕ) (l : List Op) (c : Ctx) → steady code l c ≡ true → steady code (drop k l) c ≡ true
+steady-drop : (code k : ℕ) (l : List Op) (c : Context) → steady code l c ≡ true → steady code (drop k l) c ≡ true
 steady-drop code zero l c h = h
 steady-drop code (suc k) [] c h = h
 steady-drop code (suc k) (op ∷ l) c h = steady-drop code k l c (both (tells code op c && (leads code op c l && landsOk op l)) (steady code l c) h .1)
 
 -- what holds of an operation at a position of its call
-pub record Known (code : ℕ) (op : Op) (rest : List Op) (c : Ctx) : Type 0 where
+pub record Known (code : ℕ) (op : Op) (rest : List Op) (c : Context) : Type 0 where
   pub status : asksOne 0x13 op && (eqb code 1 || eqb code 7 || eqb code 8) ≡ waitsOn statusReady op
   pub start : asksOne 0x00 op && eqb code 8 ≡ waitsOn started op
   pub ranged : asksOp 0x1E op && (eqb code 6 || eqb code 7 || eqb code 8) ≡ isRange op
@@ -159,7 +159,7 @@ pub record Known (code : ℕ) (op : Op) (rest : List Op) (c : Ctx) : Type 0 wher
   pub next : leads code op c rest ≡ true
   pub landing : landsOk op rest ≡ true
 
-pub known-at : (code k : ℕ) (op : Op) (rest : List Op) → drop k (opsOf (programOf code)) ≡ op ∷ rest → (c : Ctx) → Known code op rest c
+pub known-at : (code k : ℕ) (op : Op) (rest : List Op) → drop k (opsOf (programOf code)) ≡ op ∷ rest → (c : Context) → Known code op rest c
 known-at code k op rest e c =
     let h : steady code (op ∷ rest) c ≡ true = rw e at (steady-drop code k (opsOf (programOf code)) c (steady-law code c)) in
     let h₁ = both (tells code op c && (leads code op c rest && landsOk op rest)) (steady code rest c) h .0 in
@@ -182,13 +182,13 @@ two-bytes : (r reg adr n : ℕ) (bs : List ℕ) → filled bs ≡ true → wrote
 two-bytes r reg adr n [] h = cc
 two-bytes r reg adr n (b ∷ bs) h = refl
 
-pub one-byte : (reg : ℕ) (op : Op) (c : Ctx) → full op c ≡ true → wrote (reg ∷ []) (sendOf op c) ≡ asksOp reg op
+pub one-byte : (reg : ℕ) (op : Op) (c : Context) → full op c ≡ true → wrote (reg ∷ []) (sendOf op c) ≡ asksOp reg op
 one-byte reg (write r bytes len over after) c h = two-bytes r reg (c .address) len (bytes c) h
 one-byte reg (read r len slot over after) c h = refl
 one-byte reg (wait w) c h = refl
 one-byte reg range c h = refl
 
-pub asks-is : (reg : ℕ) (op : Op) (c : Ctx) → full op c ≡ true → asks reg (sendOf op c) ≡ asksOne reg op
+pub asks-is : (reg : ℕ) (op : Op) (c : Context) → full op c ≡ true → asks reg (sendOf op c) ≡ asksOne reg op
 asks-is reg (write r bytes len over after) c h = ap (λ t. t && eqb len 1) (two-bytes r reg (c .address) len (bytes c) h)
 asks-is reg (read r len slot over after) c h = refl
 asks-is reg (wait w) c h = refl

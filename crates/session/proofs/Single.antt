@@ -10,7 +10,7 @@ use Rattle.session.specs.Bus.{Answer, Reply, bad, good, waitLimit, idleO
 use Rattle.session.specs.Instructions.{Stop, declines, wrongDevice, wrongAddress, wrongArgument, unready, panics, stopAnswer, Verdict, onward, leap, stop, test, Op, write, read, wait, range, Final, success, failure, sendOf, readWins, reportOf}
 use Rattle.session.specs.Steps.{slot}
 use Rattle.session.specs.Calls.{opsOf, programOf, argumentsOk}
-use Rattle.session.specs.Machine.{Session, ctxOf, keptOf, sending, giving, conclude, enter, arrive, decide, react, toReply, stray, onOps, waitsNow, illFormed, replyDef, begun, notUp, beginDef, otherDef}
+use Rattle.session.specs.Machine.{Session, contextOf, keptOf, sending, giving, conclude, enter, arrive, decide, react, toReply, stray, onOps, waitsNow, illFormed, replyDef, begun, notUp, beginDef, otherDef}
 use Rattle.session.specs.Records.{Record, call, reply, other, stepDef}
 use Rattle.session.specs.Claim1.{firstOut, Single, one-transfer, one-answer, one-refusal, ill-formed}
 use Rattle.session.proofs.Facts.{cond-case}
@@ -44,8 +44,8 @@ module _ (s : Session) where
   arrives k t = go (drop k (opsOf (programOf (t .code)))) refl
     where
       go : (l : List Op) → drop k (opsOf (programOf (t .code))) ≡ l → Single s (enter (programOf (t .code) .final) l k t)
-      go [] e = concludes (programOf (t .code) .final (ctxOf t)) t
-      go (op ∷ rest) e = one-transfer _ (sending k 0 t) (on-the-bus (t .code) k op rest (ctxOf t) e) (sent-to op (ctxOf t)) (ap (λ l. firstOut l (ctxOf t)) (sym e))
+      go [] e = concludes (programOf (t .code) .final (contextOf t)) t
+      go (op ∷ rest) e = one-transfer _ (sending k 0 t) (on-the-bus (t .code) k op rest (contextOf t) e) (sent-to op (contextOf t)) (ap (λ l. firstOut l (contextOf t)) (sym e))
 
   decides : (v : Verdict) (over k : ℕ) (t : Session) → Single s (decide v (programOf (t .code)) over k t)
   decides onward over k t = arrives k t
@@ -56,15 +56,15 @@ module _ (s : Session) where
   reacts : (op : Op) (rest : List Op) (t : Session) (r : Reply) → drop (t .step) (opsOf (programOf (t .code))) ≡ op ∷ rest → Single s (react op (programOf (t .code)) t r)
   unfolding IsLe
   reacts (write reg bytes len over after) rest t (bad e) at = fails (reportOf (readWins (t .code)) (t .failed) (suc e)) t
-  reacts (write reg bytes len over after) rest t (good bs) at = decides (after (ctxOf t)) over (suc (t .step)) t
+  reacts (write reg bytes len over after) rest t (good bs) at = decides (after (contextOf t)) over (suc (t .step)) t
   reacts (read reg len slot over after) rest t (bad e) at = fails (suc e) t
   reacts (read reg len slot over after) rest t (good bs) at =
-      decides (after (ctxOf (keptOf t (read reg len slot over after) (good bs)))) over (suc (t .step)) (keptOf t (read reg len slot over after) (good bs))
+      decides (after (contextOf (keptOf t (read reg len slot over after) (good bs)))) over (suc (t .step)) (keptOf t (read reg len slot over after) (good bs))
   reacts (wait w) rest t (bad e) at = fails (suc e) t
   reacts (wait w) rest t (good bs) at =
       cond-case (Single s) (idleOn w bs)
       (λ e. cond-case (Single s) (ltb (suc (t .idle)) (waitLimit (t .code) w))
-      (λ h. one-transfer _ (sending (t .step) (suc (t .idle)) t) (on-the-bus (t .code) (t .step) (wait w) rest (ctxOf t) at) refl (ap (λ l. firstOut l (ctxOf t)) (sym at)))
+      (λ h. one-transfer _ (sending (t .step) (suc (t .idle)) t) (on-the-bus (t .code) (t .step) (wait w) rest (contextOf t) at) refl (ap (λ l. firstOut l (contextOf t)) (sym at)))
       (λ h. gives Answer.Timeout t (le-by-compare 4 8 tt)))
       (λ e. arrives (suc (t .step)) t)
   reacts range rest t (bad e) at = arrives (suc (t .step)) (keptOf t range (bad e))
@@ -77,7 +77,7 @@ module _ (s : Session) where
       (λ e. cond-case (Single s) (not (argumentsOk code a b)) (λ e₁. one-refusal Answer.IllFormedRecord (le-by-compare 9 13 tt) (le-by-compare 13 13 tt))
       (λ e₁. cond-case (Single s) (waitsNow s) (λ e₂. one-refusal Answer.CallWaits (le-by-compare 9 10 tt) (le-by-compare 10 13 tt))
       (λ e₂. cond-case (Single s) (notUp code (s .driver .up)) (λ e₃. one-refusal Answer.NotUp (le-by-compare 9 9 tt) (le-by-compare 9 13 tt))
-      (λ e₃. decides (programOf code .entry (ctxOf (begun s code a b))) 0 0 (begun s code a b)))))
+      (λ e₃. decides (programOf code .entry (contextOf (begun s code a b))) 0 0 (begun s code a b)))))
   single (reply f bs) =
       cond-case (Single s) (illFormed s) (λ e. ill-formed)
       (λ e. cond-case (Single s) (not (waitsNow s)) (λ e₁. one-refusal Answer.NoCallWaits (le-by-compare 9 11 tt) (le-by-compare 11 13 tt))
@@ -86,6 +86,6 @@ module _ (s : Session) where
       go : (l : List Op) → drop (s .step) (opsOf (programOf (s .code))) ≡ l → Single s (onOps l (programOf (s .code)) s f bs)
       go [] e = ill-formed
       go (op ∷ rest) e =
-          cond-case (Single s) (stray (sendOf op (ctxOf s)) f bs) (λ h. one-refusal Answer.StrayByte (le-by-compare 9 12 tt) (le-by-compare 12 13 tt))
+          cond-case (Single s) (stray (sendOf op (contextOf s)) f bs) (λ h. one-refusal Answer.StrayByte (le-by-compare 9 12 tt) (le-by-compare 12 13 tt))
           (λ h. reacts op rest s (toReply f bs) e)
   single other = cond-case (Single s) (illFormed s) (λ e. ill-formed) (λ e. one-refusal Answer.IllFormedRecord (le-by-compare 9 13 tt) (le-by-compare 13 13 tt))

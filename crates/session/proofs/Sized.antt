@@ -9,33 +9,33 @@ use borrow.Author.Tests.{leb-true}
 use lib.Dec.{leb}
 use lib.ListN.{length, take, drop}
 use Rattle.session.specs.Bus.{padTo, transferOf, zeroFrom, waitRegister}
-use Rattle.session.specs.Instructions.{Ctx, Op, write, read, wait, range, sendOf}
+use Rattle.session.specs.Instructions.{Context, Op, write, read, wait, range, sendOf}
 use Rattle.session.specs.Steps.{slot}
 use Rattle.session.specs.Calls.{Program, opsOf, tuning, programs, programOf}
 use Rattle.session.specs.Claim1.{isLength, OnTheBus, Says}
 use Rattle.session.proofs.Facts.{both, clash}
 use Rattle.session.proofs.Table.{of-table}
 
-abbrev sized : Op → Ctx → Bool
+abbrev sized : Op → Context → Bool
 sized (write reg bytes len over after) c = leb (length (bytes c)) 6 && isLength len
 sized (read reg len slot over after) c = isLength len
 sized (wait w) c = true
 sized range c = true
 
-abbrev allSized : List Op → Ctx → Bool
+abbrev allSized : List Op → Context → Bool
 allSized [] c = true
 allSized (op ∷ ops) c = sized op c && allSized ops c
 
 abbrev SizedOk : ℕ → Program → Type 0
-SizedOk code p = (c : Ctx) → allSized (opsOf p) c ≡ true
+SizedOk code p = (c : Context) → allSized (opsOf p) c ≡ true
 
-sized-law : (code : ℕ) (c : Ctx) → allSized (opsOf (programOf code)) c ≡ true
+sized-law : (code : ℕ) (c : Context) → allSized (opsOf (programOf code)) c ≡ true
 unfolding programs tuning
 sized-law =
     of-table SizedOk (λ k c. refl)
     (λ c. refl, (λ c. refl, (λ c. refl, (λ c. refl, (λ c. refl, (λ c. refl, (λ c. refl, (λ c. refl, (λ c. refl, (λ c. refl, (λ c. refl, (λ c. refl, (λ c. refl, (λ c. refl, (λ c. refl, (λ c. refl, tt))))))))))))))))
 
-sized-at : (k : ℕ) (l : List Op) (c : Ctx) {op : Op} {rest : List Op} → allSized l c ≡ true → drop k l ≡ op ∷ rest → sized op c ≡ true
+sized-at : (k : ℕ) (l : List Op) (c : Context) {op : Op} {rest : List Op} → allSized l c ≡ true → drop k l ≡ op ∷ rest → sized op c ≡ true
 sized-at zero [] c h e = clash cc
 sized-at zero (x ∷ l) c {op} h e = let q : x ≡ op = cc in subst (λ o. sized o c ≡ true) q (both (sized x c) (allSized l c) h .0)
 sized-at (suc k) [] c h e = clash cc
@@ -65,13 +65,13 @@ pub transfer-says : (adr n : ℕ) (bs : List ℕ) → length bs ≤ 7 → Says a
 transfer-says adr n bs h = record { to = refl; bytes-written = bytes-back 7 bs h; then-read = refl }
 
 -- it goes to the address that its context names
-pub sent-to : (op : Op) (c : Ctx) → sendOf op c .address ≡ c .address
+pub sent-to : (op : Op) (c : Context) → sendOf op c .address ≡ c .address
 sent-to (write reg bytes len over after) c = refl
 sent-to (read reg len slot over after) c = refl
 sent-to (wait w) c = refl
 sent-to range c = refl
 
-pub on-the-bus : (code k : ℕ) (op : Op) (rest : List Op) (c : Ctx) → drop k (opsOf (programOf code)) ≡ op ∷ rest → OnTheBus (sendOf op c)
+pub on-the-bus : (code k : ℕ) (op : Op) (rest : List Op) (c : Context) → drop k (opsOf (programOf code)) ≡ op ∷ rest → OnTheBus (sendOf op c)
 on-the-bus code k op rest c e = go op (sized-at k (opsOf (programOf code)) c (sized-law code c) e)
   where
     go : (o : Op) → sized o c ≡ true → OnTheBus (sendOf o c)

@@ -13,7 +13,7 @@ use Rattle.session.specs.Records.{stepDef, reply}
 use Rattle.session.specs.Bus.{Transfer, Answer, byte, zeroFrom}
 use Rattle.session.specs.Instructions.{Op, sendOf}
 use Rattle.session.specs.Calls.{opsOf, programOf, ceilingOf, argumentsOk}
-use Rattle.session.specs.Machine.{Session, refused, ctxOf, toReply, stray, onOps, idleWrong, upWrong, malformed, waitsNow, illFormed, replyDef}
+use Rattle.session.specs.Machine.{Session, refused, contextOf, toReply, stray, onOps, idleWrong, upWrong, malformed, waitsNow, illFormed, replyDef}
 use Rattle.session.specs.Claim1.{firstOut, refusalNumber, Stray, past-length, beside-failure, Refused12, Accepts}
 use Rattle.session.proofs.Facts.{cond-case, both, clash, untrue}
 use Rattle.session.proofs.Cut.{stray-is}
@@ -73,8 +73,8 @@ refused-12 s f bs = (there, back)
     at : (l : List Op) → ((s .code ≡ 0) → ⊥) → malformed s ≡ false → drop (s .step) (opsOf (programOf (s .code))) ≡ l → onOps l (programOf (s .code)) s f bs ≡ refused Answer.StrayByte s → Refused12 s f bs
     at [] w m e = λ q. clash cc
     at (op ∷ rest) w m e =
-        cond-case (λ o. o ≡ refused Answer.StrayByte s → Refused12 s f bs) (stray (sendOf op (ctxOf s)) f bs)
-        (λ h q. record { waiting = w; sound = m; stray = rw e (strays (sendOf op (ctxOf s)) f bs h) })
+        cond-case (λ o. o ≡ refused Answer.StrayByte s → Refused12 s f bs) (stray (sendOf op (contextOf s)) f bs)
+        (λ h q. record { waiting = w; sound = m; stray = rw e (strays (sendOf op (contextOf s)) f bs h) })
         (λ h q. absurd (subst Accepts q (react-accepts op (programOf (s .code)) s (toReply f bs))))
 
     there : stepDef s (reply f bs) ≡ refused Answer.StrayByte s → Refused12 s f bs
@@ -87,9 +87,9 @@ refused-12 s f bs = (there, back)
         let w : waitsNow s ≡ true = not-false (waitsNow s) e in
         at (drop (s .step) (opsOf (programOf (s .code)))) (eqb-false (s .code) 0 (not-true (eqb (s .code) 0) w)) (rw w at m) refl))
 
-    on : (l : List Op) → idleWrong (s .code) l (s .idle) ≡ false → Stray (firstOut l (ctxOf s) .reads) f bs → onOps l (programOf (s .code)) s f bs ≡ refused Answer.StrayByte s
+    on : (l : List Op) → idleWrong (s .code) l (s .idle) ≡ false → Stray (firstOut l (contextOf s) .reads) f bs → onOps l (programOf (s .code)) s f bs ≡ refused Answer.StrayByte s
     on [] i x = untrue (sym i)
-    on (op ∷ rest) i x = rw (is-stray (sendOf op (ctxOf s)) f bs x)
+    on (op ∷ rest) i x = rw (is-stray (sendOf op (contextOf s)) f bs x)
 
     back : Refused12 s f bs → stepDef s (reply f bs) ≡ refused Answer.StrayByte s
     back r =

@@ -17,11 +17,11 @@ use Rattle.budget.specs.declared.DssTerm.{DssTerm}
 use Rattle.budget.specs.declared.WordOr.{WordOr}
 use Rattle.budget.specs.Sums.{usedSum}
 use Rattle.budget.specs.Budget.{withPre, wordOfSum, wordOfClocks, wordWithin, wordAfter, finalRangeWord}
-use Rattle.session.specs.Instructions.{Ctx, panics, Verdict, onward, leap, stop, test}
+use Rattle.session.specs.Instructions.{Context, panics, Verdict, onward, leap, stop, test}
 use Rattle.session.specs.Steps.{byPlace, byWord}
 use Rattle.session.specs.Script.{Script}
 use Rattle.session.proofs.Facts.{cond-same, clash}
-use Rattle.session.specs.Left.{decideS}
+use Rattle.session.specs.Left.{decided}
 use Rattle.session.proofs.Once.{placesAt, byPlaces, finalMacro, spareSum, wordTests}
 
 -- with no reply nothing is known
@@ -90,39 +90,39 @@ pub clear-on : (r : TimingRegisters) (m : ℕ) → firstPlace r m ≡ PlaceOr.Cl
 clear-on r m h none = new-place r m h ∙ ap placeOr (none-first (placesAt (suc m) (entriesOf r)) none)
 
 -- the first of some places as nested tests; `made` stops at a place
-module _ (over : ℕ) (c : Ctx) (κ : ℕ → Script) (made : PlaceOr → Verdict) (v : Verdict)
+module _ (over : ℕ) (c : Context) (κ : ℕ → Script) (made : PlaceOr → Verdict) (v : Verdict)
     (ends : (p : ℕ) → made (PlaceOr.Place p) ≡ stop (panics p))
-    (goes : decideS (made PlaceOr.Clear) over c κ ≡ decideS v over c κ) where
-  nested : (ps : List ℕ) → decideS (made (placeOr (firstOf ps))) over c κ ≡ decideS (byPlaces ps v) over c κ
+    (goes : decided (made PlaceOr.Clear) over c κ ≡ decided v over c κ) where
+  nested : (ps : List ℕ) → decided (made (placeOr (firstOf ps))) over c κ ≡ decided (byPlaces ps v) over c κ
   unfolding firstOf
   nested [] = goes
   nested (p ∷ ps) = by (eqb p 0) refl (nested ps)
     where
       by : (b : Bool) → eqb p 0 ≡ b
-          → decideS (made (placeOr (firstOf ps))) over c κ ≡ decideS (byPlaces ps v) over c κ
-          → decideS (made (placeOr (cond b (firstOf ps) p))) over c κ ≡ decideS (test b (byPlaces ps v) (stop (panics p))) over c κ
+          → decided (made (placeOr (firstOf ps))) over c κ ≡ decided (byPlaces ps v) over c κ
+          → decided (made (placeOr (cond b (firstOf ps) p))) over c κ ≡ decided (test b (byPlaces ps v) (stop (panics p))) over c κ
       by true q later = later
       by false q later = rw (q, ends) refl
 
 -- the n-th read, where the replies before it were clear
-pub first-agrees : (r : TimingRegisters) (m : ℕ) → firstPlace r m ≡ PlaceOr.Clear → (over : ℕ) (c : Ctx) (κ : ℕ → Script)
-    → decideS (byPlace (firstPlace r (suc m))) over c κ ≡ decideS (byPlaces (placesAt (suc m) (entriesOf r)) onward) over c κ
+pub first-agrees : (r : TimingRegisters) (m : ℕ) → firstPlace r m ≡ PlaceOr.Clear → (over : ℕ) (c : Context) (κ : ℕ → Script)
+    → decided (byPlace (firstPlace r (suc m))) over c κ ≡ decided (byPlaces (placesAt (suc m) (entriesOf r)) onward) over c κ
 first-agrees r m h over c κ = rw (new-place r m h) (nested over c κ byPlace onward (λ p. refl) refl (placesAt (suc m) (entriesOf r)))
 
 -- the word of the clocks in all, and of the time left, where there is no place
-module _ (short : Verdict) (r : TimingRegisters) (over : ℕ) (c : Ctx) (κ : ℕ → Script) where
-  sum-agrees : (n : ℕ) → decideS (byWord short (wordOfSum n)) over c κ ≡ decideS (test (ltb 65535 n) (stop (panics 9)) onward) over c κ
+module _ (short : Verdict) (r : TimingRegisters) (over : ℕ) (c : Context) (κ : ℕ → Script) where
+  sum-agrees : (n : ℕ) → decided (byWord short (wordOfSum n)) over c κ ≡ decided (test (ltb 65535 n) (stop (panics 9)) onward) over c κ
   unfolding wordOfSum
   sum-agrees n = by (ltb 65535 n)
     where
       by : (b : Bool)
-          → decideS (byWord short (cond b (WordOr.Place 9) (WordOr.Word (encodeTimeout (record { 0 = n }))))) over c κ
-          ≡ decideS (test b (stop (panics 9)) onward) over c κ
+          → decided (byWord short (cond b (WordOr.Place 9) (WordOr.Word (encodeTimeout (record { 0 = n }))))) over c κ
+          ≡ decided (test b (stop (panics 9)) onward) over c κ
       by true = refl
       by false = refl
 
   within-agrees : (budget : ℕ)
-      → decideS (byWord short (wordWithin r (record { 0 = budget }) (usedSum r DssTerm.Once))) over c κ ≡ decideS (wordTests short r budget) over c κ
+      → decided (byWord short (wordWithin r (record { 0 = budget }) (usedSum r DssTerm.Once))) over c κ ≡ decided (wordTests short r budget) over c κ
   unfolding wordWithin mclksOf
   within-agrees budget = by (ltb budget (usedSum r DssTerm.Once .0)) (ltb 4294967295 (spareSum r budget)) (eqb (finalMacro r) 0)
     where
@@ -130,17 +130,17 @@ module _ (short : Verdict) (r : TimingRegisters) (over : ℕ) (c : Ctx) (κ : �
       clocks = record { 0 = spareSum r budget / finalMacro r }
 
       by : (a b z : Bool)
-          → decideS (byWord short (cond a WordOr.NoTime (wordOfClocks (cond b (WideMclksOr.Place 7) (cond z (WideMclksOr.Place 8) (WideMclksOr.Value clocks))) r))) over c κ
-          ≡ decideS (test a short (test b (stop (panics 7)) (test z (stop (panics 8)) (test (ltb 65535 (withPre clocks (preShare r))) (stop (panics 9)) onward)))) over c κ
+          → decided (byWord short (cond a WordOr.NoTime (wordOfClocks (cond b (WideMclksOr.Place 7) (cond z (WideMclksOr.Place 8) (WideMclksOr.Value clocks))) r))) over c κ
+          ≡ decided (test a short (test b (stop (panics 7)) (test z (stop (panics 8)) (test (ltb 65535 (withPre clocks (preShare r))) (stop (panics 9)) onward)))) over c κ
       by true b z = refl
       by false true z = refl
       by false false true = refl
       by false false false = sum-agrees (withPre clocks (preShare r))
 
 -- the last read before the word is written, where the five before it were clear
-pub word-agrees : (short : Verdict) (r : TimingRegisters) (budget : ℕ) → firstPlace r 5 ≡ PlaceOr.Clear → (over : ℕ) (c : Ctx) (κ : ℕ → Script)
-    → decideS (byWord short (finalRangeWord r (record { 0 = budget }) DssTerm.Once)) over c κ
-    ≡ decideS (byPlaces (placesAt 6 (entriesOf r)) (wordTests short r budget)) over c κ
+pub word-agrees : (short : Verdict) (r : TimingRegisters) (budget : ℕ) → firstPlace r 5 ≡ PlaceOr.Clear → (over : ℕ) (c : Context) (κ : ℕ → Script)
+    → decided (byWord short (finalRangeWord r (record { 0 = budget }) DssTerm.Once)) over c κ
+    ≡ decided (byPlaces (placesAt 6 (entriesOf r)) (wordTests short r budget)) over c κ
 unfolding finalRangeWord
 word-agrees short r budget h over c κ =
     rw (new-place r 5 h)
@@ -148,14 +148,14 @@ word-agrees short r budget h over c κ =
     (within-agrees short r over c κ budget) (placesAt 6 (entriesOf r)))
 
 -- where a read goes on it has found no place
-pub place-same : (x : PlaceOr) (over : ℕ) (c : Ctx) (κ κ′ : ℕ → Script) → (x ≡ PlaceOr.Clear → κ zero ≡ κ′ zero)
-    → decideS (byPlace x) over c κ ≡ decideS (byPlace x) over c κ′
+pub place-same : (x : PlaceOr) (over : ℕ) (c : Context) (κ κ′ : ℕ → Script) → (x ≡ PlaceOr.Clear → κ zero ≡ κ′ zero)
+    → decided (byPlace x) over c κ ≡ decided (byPlace x) over c κ′
 place-same PlaceOr.Clear over c κ κ′ h = h refl
 place-same (PlaceOr.Place p) over c κ κ′ h = refl
 
 -- a verdict leads on, over some instructions or to an end
-pub verdict-same : (v : Verdict) (over : ℕ) (c : Ctx) (κ κ′ : ℕ → Script) → κ zero ≡ κ′ zero → κ over ≡ κ′ over
-    → decideS v over c κ ≡ decideS v over c κ′
+pub verdict-same : (v : Verdict) (over : ℕ) (c : Context) (κ κ′ : ℕ → Script) → κ zero ≡ κ′ zero → κ over ≡ κ′ over
+    → decided v over c κ ≡ decided v over c κ′
 verdict-same onward over c κ κ′ p q = p
 verdict-same leap over c κ κ′ p q = q
 verdict-same (stop x) over c κ κ′ p q = refl

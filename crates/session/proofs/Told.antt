@@ -7,7 +7,7 @@ use lib.Dec.{eqb}
 use lib.ListN.{drop}
 use borrow.Author.Tests.{not-true}
 use Rattle.session.specs.Bus.{Reply, Condition, detectorReady, statusReady, started}
-use Rattle.session.specs.Instructions.{Ctx, Op, write, read, wait, range, sendOf}
+use Rattle.session.specs.Instructions.{Context, Op, write, read, wait, range, sendOf}
 use Rattle.session.specs.Steps.{slot}
 use Rattle.session.specs.Calls.{opsOf, programOf}
 use Rattle.session.specs.History.{Exchange, by}
@@ -17,22 +17,22 @@ use Rattle.session.proofs.Shape.{asksOne, waitsOn, sameBool, same-bool,
 
 abbrev pub Told : ℕ → List Op → List Exchange → Type 0
 Told code [] ex = Unit {0}
-Told code (op ∷ rest) ex = (c : Ctx) (x : Condition) → readOf x code (sendOf op c) ex ≡ waitsOn x op
+Told code (op ∷ rest) ex = (c : Context) (x : Condition) → readOf x code (sendOf op c) ex ≡ waitsOn x op
 
 -- status and start reads are told by the transfer alone
-told-by : (code : ℕ) (op : Op) (rest : List Op) (ex : List Exchange) → ((c : Ctx) → Known code op rest c)
-    → ((c : Ctx) → (asksOne 0x83 op && eqb code 1) && awaited ex ≡ waitsOn detectorReady op)
+told-by : (code : ℕ) (op : Op) (rest : List Op) (ex : List Exchange) → ((c : Context) → Known code op rest c)
+    → ((c : Context) → (asksOne 0x83 op && eqb code 1) && awaited ex ≡ waitsOn detectorReady op)
     → Told code (op ∷ rest) ex
 told-by code op rest ex k h c detectorReady = rw (asks-is 0x83 op c (k c .whole)) (h c)
 told-by code op rest ex k h c statusReady = rw (asks-is 0x13 op c (k c .whole)) (k c .status)
 told-by code op rest ex k h c started = rw (asks-is 0x00 op c (k c .whole)) (k c .start)
 
 -- at the call's start, after an operation, and at a write
-pub told-first : (code : ℕ) (op : Op) (rest : List Op) → ((c : Ctx) → Known code op rest c) → not (waitsOn detectorReady op) ≡ true → Told code (op ∷ rest) []
+pub told-first : (code : ℕ) (op : Op) (rest : List Op) → ((c : Context) → Known code op rest c) → not (waitsOn detectorReady op) ≡ true → Told code (op ∷ rest) []
 told-first code op rest k f = told-by code op rest [] k (λ c. and-false (asksOne 0x83 op && eqb code 1) ∙ sym (not-true (waitsOn detectorReady op) f))
 
-pub told-next : (code : ℕ) (prev : Op) (c₀ : Ctx) (r : Reply) (next : Op) (rest : List Op) (ex : List Exchange)
-    → full prev c₀ ≡ true → edge code prev c₀ next ≡ true → ((c : Ctx) → Known code next rest c)
+pub told-next : (code : ℕ) (prev : Op) (c₀ : Context) (r : Reply) (next : Op) (rest : List Op) (ex : List Exchange)
+    → full prev c₀ ≡ true → edge code prev c₀ next ≡ true → ((c : Context) → Known code next rest c)
     → Told code (next ∷ rest) (by (sendOf prev c₀) r ∷ ex)
 told-next code prev c₀ r next rest ex f e k = told-by code next rest (by (sendOf prev c₀) r ∷ ex) k (λ c. go (asksOne 0x83 next && eqb code 1) e)
   where
@@ -55,7 +55,7 @@ told-write code k ex h = go (drop k (opsOf (programOf code))) refl h
     go (range ∷ rest) e w = clash cc
 
 -- after another read of the same wait
-pub told-again : (code : ℕ) (w : Condition) (rest : List Op) (ex : List Exchange) (c₀ : Ctx) (r : Reply)
+pub told-again : (code : ℕ) (w : Condition) (rest : List Op) (ex : List Exchange) (c₀ : Context) (r : Reply)
     → Told code (wait w ∷ rest) ex → Told code (wait w ∷ rest) (by (sendOf (wait w) c₀) r ∷ ex)
 told-again code w rest ex c₀ r h c statusReady = h c statusReady
 told-again code w rest ex c₀ r h c started = h c started

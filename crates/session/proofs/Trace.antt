@@ -9,7 +9,7 @@ use lib.Dec.{eqb, leb}
 use lib.ListN.{length, drop}
 use borrow.Author.Tests.{leb-true, eqb-true}
 use Rattle.session.specs.Bus.{byte, Reply, bad, good, dataIn, Condition}
-use Rattle.session.specs.Instructions.{Ctx, Op, write, read, wait, range, rangeSlot, bytesFrom, put, sendOf, keptBytes}
+use Rattle.session.specs.Instructions.{Context, Op, write, read, wait, range, rangeSlot, bytesFrom, put, sendOf, keptBytes}
 use Rattle.session.specs.Steps.{slot}
 use Rattle.session.specs.Calls.{opsOf, programOf}
 use Rattle.session.specs.History.{Exchange, by}
@@ -120,7 +120,7 @@ filled-in t (wait w) r l g n h i lt = cc
 filled-in t range r l g n h i lt = cc
 
 -- one exchange
-pub trace-step : (t : Track) (op : Op) (rest : List Op) (c : Ctx) (r : Reply) (l : List ℕ) (ex : List Exchange)
+pub trace-step : (t : Track) (op : Op) (rest : List Op) (c : Context) (r : Reply) (l : List ℕ) (ex : List Exchange)
     → full op c ≡ true → GoesOn op r → length l ≡ 24
     → Traced t l (op ∷ rest) ex → Traced t (keptBytes op r l) rest (by (sendOf op c) r ∷ ex)
 trace-step t op rest c r l ex f g n d = go (wasRead (t .reg) ex) refl
@@ -149,7 +149,7 @@ trace-step t op rest c r l ex f g n d = go (wasRead (t .reg) ex) refl
             }
 
 -- another read of a wait
-pub trace-again : (t : Track) (l : List ℕ) (w : Condition) (rest : List Op) (c : Ctx) (r : Reply) (ex : List Exchange)
+pub trace-again : (t : Track) (l : List ℕ) (w : Condition) (rest : List Op) (c : Context) (r : Reply) (ex : List Exchange)
     → Traced t l (wait w ∷ rest) ex → Traced t l (wait w ∷ rest) (by (sendOf (wait w) c) r ∷ ex)
 trace-again t l w rest c r ex d = go (wasRead (t .reg) ex) (asksOp (t .reg) (wait w)) refl refl
   where
@@ -160,7 +160,7 @@ trace-again t l w rest c r ex d = go (wasRead (t .reg) ex) (asksOp (t .reg) (wai
         record { law = rw (e, q) (rw (e, q) at (d .law)); bytes = λ i lt. rw (e, q) (d .bytes i lt ∙ ap (byte i) (first-none (t .reg) ex e)) }
 
 -- an operation that can skip stands only after the read
-pub trace-late : (t : Track) (op : Op) (rest : List Op) (c : Ctx) (r : Reply) (l : List ℕ) (ex : List Exchange)
+pub trace-late : (t : Track) (op : Op) (rest : List Op) (c : Context) (r : Reply) (l : List ℕ) (ex : List Exchange)
     → full op c ≡ true → leaps op ≡ true → Traced t l (op ∷ rest) ex → wasRead (t .reg) (by (sendOf op c) r ∷ ex) ≡ true
 trace-late t op rest c r l ex f a d =
     rw (one-byte (t .reg) op c f)

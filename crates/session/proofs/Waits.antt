@@ -12,7 +12,7 @@ use lib.ListN.{length}
 use Rattle.session.specs.Bus.{Driver, Transfer, Answer, Reply, bad, good, Condition, idleOn}
 use Rattle.session.specs.Instructions.{wait, sendOf}
 use Rattle.session.specs.Calls.{Program}
-use Rattle.session.specs.Machine.{Session, sent, ctxOf, sending, giving, arrive, waitRead}
+use Rattle.session.specs.Machine.{Session, sent, contextOf, sending, giving, arrive, waitRead}
 use Rattle.session.specs.Script.{done, onReply, waitLoop, Raw, dataOf, isClean, cut, refuses, heard, play}
 use Rattle.session.specs.Claim3.{If}
 use Rattle.session.specs.AnyLimit.{isIdle, FirstIdle, endsInTimeout, waitAlone, nextRead, waitReads, AllIdle, afterIdle}
@@ -40,7 +40,7 @@ module _ (t : Transfer) (idle : List ℕ → Bool) (d : Driver) where
 -- one read of the machine's wait: below the limit the same read is made again and counted, at it the answer is Timeout;
 -- a read that is not idle goes on, also the last one
 module _ (limit : ℕ) (x : Condition) (p : Program) (s : Session) (bs : List ℕ) where
-  pub idle-again : idleOn x bs ≡ true → suc (s .idle) < limit → waitRead limit x p s bs ≡ sent (sendOf (wait x) (ctxOf s)) (sending (s .step) (suc (s .idle)) s)
+  pub idle-again : idleOn x bs ≡ true → suc (s .idle) < limit → waitRead limit x p s bs ≡ sent (sendOf (wait x) (contextOf s)) (sending (s .step) (suc (s .idle)) s)
   idle-again h lt = rw (h, lt-ltb (suc (s .idle)) limit lt)
 
   pub idle-out : idleOn x bs ≡ true → limit ≤ suc (s .idle) → waitRead limit x p s bs ≡ giving Answer.Timeout s
@@ -51,7 +51,7 @@ module _ (limit : ℕ) (x : Condition) (p : Program) (s : Session) (bs : List �
 
 -- k idle reads, one after the other: below the limit the call still waits, with all of them counted
 pub idle-below : (limit : ℕ) (x : Condition) (p : Program) (s : Session) (bss : List (List ℕ)) → AllIdle x bss → s .idle + length bss < limit
-    → waitReads limit x p s bss ≡ sent (sendOf (wait x) (ctxOf s)) (afterIdle (length bss) s)
+    → waitReads limit x p s bss ≡ sent (sendOf (wait x) (contextOf s)) (afterIdle (length bss) s)
 unfolding waitReads
 idle-below limit x p s [] h lt = refl
 idle-below limit x p s (bs ∷ bss) h lt =

@@ -7,7 +7,7 @@ use lib.Dec.{T, eqb}
 use Rattle.session.specs.Bus.{Driver, Transfer, Answer, Reply, bad, good, Condition, idleOn, numberOf}
 use Rattle.session.specs.Instructions.{wait, sendOf}
 use Rattle.session.specs.Calls.{Program}
-use Rattle.session.specs.Machine.{Session, Outcome, sent, answered, refused, broken, ctxOf, sending, waitRead}
+use Rattle.session.specs.Machine.{Session, Outcome, sent, answered, refused, broken, contextOf, sending, waitRead}
 use Rattle.session.specs.Script.{Script, done, waitLoop, Raw, dataOf, isClean, cut, Trace, sends, refuses, waits, ends}
 use Rattle.session.specs.Claim3.{If}
 
@@ -40,7 +40,7 @@ nextRead (refused x s) f = refused x s
 nextRead (broken s) f = broken s
 
 unfoldable pub waitReads : ℕ → Condition → Program → Session → List (List ℕ) → Outcome
-waitReads limit x p s [] = sent (sendOf (wait x) (ctxOf s)) s
+waitReads limit x p s [] = sent (sendOf (wait x) (contextOf s)) s
 waitReads limit x p s (bs ∷ bss) = nextRead (waitRead limit x p s bs) (λ t. waitReads limit x p t bss)
 
 abbrev pub AllIdle : Condition → List (List ℕ) → Type 0

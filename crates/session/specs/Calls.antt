@@ -9,14 +9,14 @@ use Rattle.rate.specs.Rate.{signalRateLimitWord}
 use Rattle.threshold.specs.declared.ThresholdCheck.{ThresholdCheck}
 use Rattle.threshold.specs.Threshold.{checkThresholds, decodeThreshold}
 use Rattle.session.specs.Bus.{byte, Driver, withAddress, withBudget}
-use Rattle.session.specs.Instructions.{Instruction, Ctx, declines, wrongAddress, wrongArgument, Verdict, onward, stop, test, Op, Final, success, failure, identitySlot, stopSlot, maskSlot, spadSlot, rangeSlot, timingSlot, secondSlot}
+use Rattle.session.specs.Instructions.{Instruction, Context, declines, wrongAddress, wrongArgument, Verdict, onward, stop, test, Op, Final, success, failure, identitySlot, stopSlot, maskSlot, spadSlot, rangeSlot, timingSlot, secondSlot}
 use Rattle.session.specs.Steps.{slot, slotWord, pass, tooShort, opOf}
 
 -- a call: what its arguments decide, its instructions, and its end after the last
 pub record Program : Type 0 where
-  pub entry : Ctx → Verdict
+  pub entry : Context → Verdict
   pub steps : List Instruction
-  pub final : Ctx → Final
+  pub final : Context → Final
 
 abbrev pub opsOf : Program → List Op
 opsOf p = map opOf (p .steps)
@@ -119,7 +119,7 @@ bringUpSteps =
 abbrev pub broughtUp : ℕ → List ℕ → ℕ → Driver
 broughtUp a carried own = record { up = true; address = a; stop = byte stopSlot carried; budget = own }
 
-abbrev pub finishes : (Ctx → ℕ) → Ctx → Final
+abbrev pub finishes : (Context → ℕ) → Context → Final
 finishes value c = success (value c) (c .driver)
 
 -- 01: "then the read's code is reported"
@@ -127,11 +127,11 @@ abbrev pub byCode : ℕ → Final → Final
 byCode zero f = f
 byCode (suc e) f = failure (suc e)
 
-abbrev pub rangeResult : Ctx → Final
+abbrev pub rangeResult : Context → Final
 rangeResult c = byCode (c .failed) (finishes (slotWord rangeSlot) c)
 
 -- a call that its arguments cannot end, with a value
-abbrev pub valued : List Instruction → (Ctx → ℕ) → Program
+abbrev pub valued : List Instruction → (Context → ℕ) → Program
 valued steps value = record { entry = pass; steps = steps; final = finishes value }
 
 -- and with none

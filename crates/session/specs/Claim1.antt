@@ -8,20 +8,20 @@ use Prim.Native.Nat.{ℕ, _%_, _≤_}
 use lib.Dec.{eqb}
 use lib.ListN.{length, drop}
 use Rattle.session.specs.Bus.{Transfer, Answer, byte, transferOf, bytesOf, zeroFrom, numberOf, valuesOf, absent}
-use Rattle.session.specs.Instructions.{Ctx, Op, sendOf}
+use Rattle.session.specs.Instructions.{Context, Op, sendOf}
 use Rattle.session.specs.Calls.{opsOf, programOf}
-use Rattle.session.specs.Machine.{Session, Outcome, sent, answered, refused, broken, resting, ctxOf, malformed, illFormed}
+use Rattle.session.specs.Machine.{Session, Outcome, sent, answered, refused, broken, resting, contextOf, malformed, illFormed}
 use Rattle.session.specs.Records.{Record, call, recordsOf, stepDef}
 use Rattle.session.specs.Refusals.{refusals, firstOf, atOnce, firstAnswer}
 use Rattle.session.specs.History.{answer, Entry, callsIn, answersIn, repliesIn, transfersIn, refusedIn, Run, sessionAfter, Genuine, inOrder}
 
 -- the transfer that a waiting session has out
-abbrev pub firstOut : List Op → Ctx → Transfer
+abbrev pub firstOut : List Op → Context → Transfer
 firstOut [] c = transferOf 0 [] 0
 firstOut (op ∷ ops) c = sendOf op c
 
 abbrev pub outstanding : Session → Transfer
-outstanding s = firstOut (drop (s .step) (opsOf (programOf (s .code)))) (ctxOf s)
+outstanding s = firstOut (drop (s .step) (opsOf (programOf (s .code)))) (contextOf s)
 
 -- 01: "A transfer has an address, 1..7 written bytes and a read length 0, 1, 2 or 6."
 abbrev pub isLength : ℕ → Bool

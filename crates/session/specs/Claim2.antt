@@ -6,12 +6,12 @@ use mathlib.Core.List.{List, [], _∷_}
 use Prim.Native.Nat.{ℕ, _+_}
 use Rattle.session.specs.Bus.{Answer, Reply, zeroFrom, cleanFrom}
 use Rattle.session.specs.Calls.{opsOf, programOf}
-use Rattle.session.specs.Machine.{Session, Outcome, sent, answered, refused, broken, ctxOf, malformed, waitsNow, begun}
+use Rattle.session.specs.Machine.{Session, Outcome, sent, answered, refused, broken, contextOf, malformed, waitsNow, begun}
 use Rattle.session.specs.Records.{call, reply, stepDef}
 use Rattle.session.specs.Refusals.{ranges, inRange}
 use Rattle.session.specs.Script.{Script, done, send, Raw, dataOf, cut, Trace, sends, refuses, waits, ends, play}
 use Rattle.session.specs.RustBringUp.{rust}
-use Rattle.session.specs.Left.{decideS, resume, left}
+use Rattle.session.specs.Left.{decided, resume, left}
 use Rattle.session.specs.History.{sessionOf}
 use Rattle.session.specs.Claim1.{outstanding}
 
@@ -72,7 +72,7 @@ abbrev pub BeginsAt : Session → ℕ → ℕ → ℕ → Type 0
 BeginsAt s code a b =
     Accepted s code a b
     → StandsAt (begun s code a b) (stepDef s (call code a b))
-    (decideS (programOf code .entry (ctxOf (begun s code a b))) 0 (ctxOf (begun s code a b)) (λ n. resume (programOf code .final) n (opsOf (programOf code)) (ctxOf (begun s code a b))))
+    (decided (programOf code .entry (contextOf (begun s code a b))) 0 (contextOf (begun s code a b)) (λ n. resume (programOf code .final) n (opsOf (programOf code)) (contextOf (begun s code a b))))
 
 -- a waiting session that 15 lets pass, also one that no run leaves, stands in the script of its instructions:
 -- a reply that is not refused takes both one step on

@@ -14,7 +14,7 @@ use Rattle.session.specs.Bus.{Condition, waitRegister, waitLimit, byte, 
 
 -- what an instruction can see: the call, the driver's fields, the address of its transfers, the failure code of the
 -- range read (or 0), the budget that the budget reads gave, and the carried bytes
-pub record Ctx : Type 0 where
+pub record Context : Type 0 where
   pub code : ℕ
   pub driver : Driver
   pub address : ℕ
@@ -50,9 +50,9 @@ pub data Verdict : Type 0 where
 
 pub data Op : Type 0 where
   -- register, the bytes after it, bytes read back, instructions that a leap leaves out, what a good reply decides
-  write : ℕ → (Ctx → List ℕ) → ℕ → ℕ → (Ctx → Verdict) → Op
+  write : ℕ → (Context → List ℕ) → ℕ → ℕ → (Context → Verdict) → Op
   -- register, length, slot of the bytes, instructions that a leap leaves out, what a good reply decides
-  read : ℕ → ℕ → ℕ → ℕ → (Ctx → Verdict) → Op
+  read : ℕ → ℕ → ℕ → ℕ → (Context → Verdict) → Op
   wait : Condition → Op
   -- 01: "after a failed range read the interrupt is still cleared": a failure is kept, and the call goes on
   range : Op
@@ -103,7 +103,7 @@ timingIn k carried = registersOf (bytesFrom k 8 carried)
 abbrev pub budgetIn : ℕ → List ℕ → ℕ
 budgetIn k carried = timeIn (measurementTimingBudget (timingIn k carried)) .0
 
-abbrev pub sendOf : Op → Ctx → Transfer
+abbrev pub sendOf : Op → Context → Transfer
 sendOf (write reg bytes n over after) c = transferOf (c .address) (reg ∷ bytes c) n
 sendOf (read reg n slot over after) c = transferOf (c .address) (reg ∷ []) n
 sendOf (wait x) c = transferOf (c .address) (waitRegister x ∷ []) 1

@@ -6,7 +6,7 @@ use lib.Dec.{eqb, ltb, leb}
 use lib.ListN.{drop, replicate}
 pub use Rattle.session.specs.declared.Session.{Session}
 use Rattle.session.specs.Bus.{Driver, Transfer, Answer, Reply, bad, good, Condition, waitLimit, idleOn, absent}
-use Rattle.session.specs.Instructions.{Ctx, stopAnswer, Verdict, onward, leap, stop, test, Op, write, read, wait, range, Final, success, failure, sendOf, keptBytes, keptFailure, keptBudget, readWins, reportOf}
+use Rattle.session.specs.Instructions.{Context, stopAnswer, Verdict, onward, leap, stop, test, Op, write, read, wait, range, Final, success, failure, sendOf, keptBytes, keptFailure, keptBudget, readWins, reportOf}
 use Rattle.session.specs.Steps.{slot}
 use Rattle.session.specs.Calls.{Program, opsOf, programOf, ceilingOf, argumentsOk}
 
@@ -37,8 +37,8 @@ addressOf code a d = cond (eqb code 1) a (d .address)
 abbrev pub heldBy : ℕ → Driver → Driver
 heldBy code d = cond (eqb code 1) absent d
 
-abbrev pub ctxOf : Session → Ctx
-ctxOf s =
+abbrev pub contextOf : Session → Context
+contextOf s =
     record {
       code = s .code;
       driver = heldBy (s .code) (s .driver);
@@ -94,9 +94,9 @@ conclude (success v d) s = answering (Answer.Done v) d s
 conclude (failure e) s = giving (Answer.BusError e) s
 
 -- the instruction that stands first in the list is sent; with none left the call ends
-abbrev pub enter : (Ctx → Final) → List Op → ℕ → Session → Outcome
-enter fin [] k s = conclude (fin (ctxOf s)) s
-enter fin (op ∷ rest) k s = sent (sendOf op (ctxOf s)) (sending k 0 s)
+abbrev pub enter : (Context → Final) → List Op → ℕ → Session → Outcome
+enter fin [] k s = conclude (fin (contextOf s)) s
+enter fin (op ∷ rest) k s = sent (sendOf op (contextOf s)) (sending k 0 s)
 
 unfoldable pub arrive : Program → ℕ → Session → Outcome
 arrive p k s = enter (p .final) (drop k (opsOf p)) k s
@@ -113,16 +113,16 @@ decide (test b v w) p over k s = cond b (decide v p over k s) (decide w p over k
 abbrev pub waitRead : ℕ → Condition → Program → Session → List ℕ → Outcome
 waitRead limit x p s bs =
     cond (idleOn x bs)
-    (cond (ltb (suc (s .idle)) limit) (sent (sendOf (wait x) (ctxOf s)) (sending (s .step) (suc (s .idle)) s)) (giving Answer.Timeout s))
+    (cond (ltb (suc (s .idle)) limit) (sent (sendOf (wait x) (contextOf s)) (sending (s .step) (suc (s .idle)) s)) (giving Answer.Timeout s))
     (arrive p (suc (s .step)) s)
 
 -- what a reply does to the call that waits at an instruction
 abbrev pub react : Op → Program → Session → Reply → Outcome
 react (write reg bytes len over after) p s (bad e) = giving (Answer.BusError (reportOf (readWins (s .code)) (s .failed) (suc e))) s
-react (write reg bytes len over after) p s (good bs) = decide (after (ctxOf s)) p over (suc (s .step)) s
+react (write reg bytes len over after) p s (good bs) = decide (after (contextOf s)) p over (suc (s .step)) s
 react (read reg len slot over after) p s (bad e) = giving (Answer.BusError (suc e)) s
 react (read reg len slot over after) p s (good bs) =
-    decide (after (ctxOf (keptOf s (read reg len slot over after) (good bs)))) p over (suc (s .step)) (keptOf s (read reg len slot over after) (good bs))
+    decide (after (contextOf (keptOf s (read reg len slot over after) (good bs)))) p over (suc (s .step)) (keptOf s (read reg len slot over after) (good bs))
 react (wait x) p s (bad e) = giving (Answer.BusError (suc e)) s
 react (wait x) p s (good bs) = waitRead (waitLimit (s .code) x) x p s bs
 react range p s (bad e) = arrive p (suc (s .step)) (keptOf s range (bad e))
@@ -144,7 +144,7 @@ stray t (suc e) bs = not (allZero bs)
 
 abbrev pub onOps : List Op → Program → Session → ℕ → List ℕ → Outcome
 onOps [] p s f bs = broken s
-onOps (op ∷ rest) p s f bs = cond (stray (sendOf op (ctxOf s)) f bs) (refused Answer.StrayByte s) (react op p s (toReply f bs))
+onOps (op ∷ rest) p s f bs = cond (stray (sendOf op (contextOf s)) f bs) (refused Answer.StrayByte s) (react op p s (toReply f bs))
 
 -- 01's answer 15, "while a call waits": "code or arguments that 13 would refuse, call 1 marked up or another not up, step not of its call,
 -- idle reads at or over the wait's limit or not 0 outside a wait, transfers 0 or over the ceiling"
@@ -205,7 +205,7 @@ beginDef s code a b =
     (cond (not (argumentsOk code a b)) (refused Answer.IllFormedRecord s)
     (cond (waitsNow s) (refused Answer.CallWaits s)
     (cond (notUp code (s .driver .up)) (refused Answer.NotUp s)
-    (decide (programOf code .entry (ctxOf (begun s code a b))) (programOf code) 0 0 (begun s code a b)))))
+    (decide (programOf code .entry (contextOf (begun s code a b))) (programOf code) 0 0 (begun s code a b)))))
 
 -- a record of no kind: 15, 13
 unfoldable pub otherDef : Session → Outcome

@@ -16,12 +16,12 @@ use Rattle.budget.specs.declared.DssTerm.{DssTerm}
 use Rattle.budget.specs.declared.WordOr.{WordOr}
 use Rattle.budget.specs.Budget.{finalRangeWord}
 use Rattle.session.specs.Bus.{byte, detectorReady, statusReady, started}
-use Rattle.session.specs.Instructions.{Instruction, Ctx, declines, wrongDevice, unready, panics, Verdict, onward, leap, stop, test, Op, write, read, wait, range, identitySlot, maskSlot, spadSlot, timingSlot, secondSlot, mapSlot, bytesFrom, timingIn}
+use Rattle.session.specs.Instructions.{Instruction, Context, declines, wrongDevice, unready, panics, Verdict, onward, leap, stop, test, Op, write, read, wait, range, identitySlot, maskSlot, spadSlot, timingSlot, secondSlot, mapSlot, bytesFrom, timingIn}
 
-abbrev pub slot : ℕ → Ctx → ℕ
+abbrev pub slot : ℕ → Context → ℕ
 slot k c = byte k (c .carried)
 
-abbrev pub slotWord : ℕ → Ctx → ℕ
+abbrev pub slotWord : ℕ → Context → ℕ
 slotWord k c = wordOf (slot k c) (slot (k + 1) c)
 
 -- 01: "Words are sent high byte first."
@@ -31,11 +31,11 @@ wordBytes w = w / 256 % 256 ∷ w % 256 ∷ []
 abbrev pub longBytes : ℕ → List ℕ
 longBytes w = w / 16777216 % 256 ∷ w / 65536 % 256 ∷ w / 256 % 256 ∷ w % 256 ∷ []
 
-abbrev pub pass : Ctx → Verdict
+abbrev pub pass : Context → Verdict
 pass c = onward
 
 -- 01: "Register writes read back as many bytes as the Rust asks (1; 6 for the map) and ignore them"
-abbrev pub writes : ℕ → (Ctx → List ℕ) → Op
+abbrev pub writes : ℕ → (Context → List ℕ) → Op
 writes reg bytes = write reg bytes 1 0 pass
 
 abbrev pub keeps : ℕ → ℕ → ℕ → Op
@@ -67,10 +67,10 @@ abbrev pub dssOfCall9 : DssTerm
 dssOfCall9 = DssTerm.Once
 
 -- the budget that is set: the argument of call 9, which reads from slot 8 on, or a bring-up's own: its second reads, from slot 16 on, are for that
-abbrev pub budgetToSet : ℕ → Ctx → ℕ
+abbrev pub budgetToSet : ℕ → Context → ℕ
 budgetToSet k c = cond (eqb k secondSlot) (c .own) (c .a)
 
-abbrev pub wordToSet : ℕ → Ctx → WordOr
+abbrev pub wordToSet : ℕ → Context → WordOr
 wordToSet k c = finalRangeWord (timingIn k (c .carried)) (record { 0 = budgetToSet k c }) dssOfCall9
 
 -- 01: "It drops an answer 1 of its budget step": a bring-up leaps over the write, call 9 is answered 1
@@ -96,15 +96,15 @@ abbrev pub timingPlace : ℕ → ℕ
 timingPlace n = getD (0 ∷ 0 ∷ 1 ∷ 3 ∷ 5 ∷ 6 ∷ 7 ∷ []) n 0
 
 -- 01: "an oscillator word of 0 leaves the period"
-abbrev pub timedPeriod : Ctx → ℕ
+abbrev pub timedPeriod : Context → ℕ
 timedPeriod c = cond (eqb (slotWord timingSlot c) 0) (c .a) (c .a * slotWord timingSlot c)
 
 -- 01: "period × oscillator word above 32 bits is place 1"
-abbrev pub periodTooLong : Ctx → Bool
+abbrev pub periodTooLong : Context → Bool
 periodTooLong c = not (eqb (slotWord timingSlot c) 0) && ltb 4294967295 (c .a * slotWord timingSlot c)
 
 -- the new map: count in the low seven bits of 0x92's byte, the aperture flag above them
-abbrev pub newMap : Ctx → List ℕ
+abbrev pub newMap : Context → List ℕ
 newMap c = bytesFrom 0 6 (selected (bytesFrom mapSlot 6 (c .carried)) (slot spadSlot c % 128) (not (eqb (slot spadSlot c / 128 % 2) 0)))
 
 abbrev pub opOf : Instruction → Op
