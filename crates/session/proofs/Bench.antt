@@ -13,9 +13,9 @@ use Rattle.timing.specs.Timeouts.{timeoutClocks, periodClocks, preShare, finalC
 use Rattle.clock.specs.Clock.{decodeTimeout, decodeVcselPeriod, microsecondsOf}
 use Rattle.session.specs.Bus.{Driver}
 use Rattle.session.specs.Calls.{tuning, programs, programOf, defaultAddress, ceilings, ceilingOf, greatest, argumentsOk}
-use Rattle.session.specs.Machine.{refused, arrive, stray, malformed, replyDef, beginDef, otherDef}
+use Rattle.session.specs.Machine.{arrive, stray, malformed, replyDef, beginDef, otherDef}
 use Rattle.session.specs.Records.{call, reply, other, callBytes, replyBytes, recordsOf, stepDef}
-use Rattle.session.specs.RustBringUp.{new, pair, calls, rust}
+use Rattle.session.specs.RustBringUp.{new, calls, rust}
 use Rattle.session.specs.History.{runFrom, runRecords, runDef}
 use Rattle.session.specs.Bench.{AnswerValues, CarriedPlaces, HeldValues, EdgeValues, SessionValues}
 

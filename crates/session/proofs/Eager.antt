@@ -12,10 +12,10 @@ use Rattle.timing.specs.Places.{firstPlace}
 use Rattle.session.specs.Bus.{Transfer, Answer, Reply, bad, good, waitLimit, idleOn}
 use Rattle.session.specs.Instructions.{Instruction, Context, Op, write, read, wait, range, Final, bytesFrom, timingIn, sendOf}
 use Rattle.session.specs.Steps.{slot, byWord, budgetToSet, wordToSet, noTime, overLast, timingLength, opOf}
-use Rattle.session.specs.Calls.{Program, opsOf, tuning, programs, programOf}
+use Rattle.session.specs.Calls.{opsOf, tuning, programs, programOf}
 use Rattle.session.specs.Script.{Script, done, send, onReply, waitLoop}
 use Rattle.session.proofs.Facts.{both, clash}
-use Rattle.session.proofs.Table.{of-table}
+use Rattle.session.proofs.Table.{of-test}
 use Rattle.session.specs.Left.{keeping, failing, resume}
 use Rattle.session.proofs.Once.{Kind, timing, last, other, kindOf, onceBy, onceOf}
 use Rattle.session.proofs.Tests.{none-known, first-agrees, word-agrees, place-same, verdict-same}
@@ -171,12 +171,9 @@ module _ (fin : Context → Final) where
       step-same (kindOf i) is m j c (q .0) p (λ c′ p′. once is (repliesBy (kindOf i)) (slotBy (kindOf i)) c′ (q .1) p′)
 
 -- the table of calls
-abbrev Ordered : ℕ → Program → Type 0
-Ordered code p = ordered 0 0 (p .steps) ≡ true
-
-all-ordered : (code : ℕ) → Ordered code (programOf code)
+all-ordered : (code : ℕ) → ordered 0 0 (programOf code .steps) ≡ true
 unfolding programs tuning
-all-ordered = of-table Ordered (λ k. refl) (refl, (refl, (refl, (refl, (refl, (refl, (refl, (refl, (refl, (refl, (refl, (refl, (refl, (refl, (refl, (refl, tt))))))))))))))))
+all-ordered = of-test (λ k p. ordered 0 0 (p .steps)) (λ k. refl) refl
 
 pub made-once : (code : ℕ) (c : Context)
     → resume (programOf code .final) zero (opsOf (programOf code)) c ≡ resume (programOf code .final) zero (map onceOf (programOf code .steps)) c

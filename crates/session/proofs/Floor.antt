@@ -1,16 +1,17 @@
 -- The least number of transfers of a call that ends in success.
 use mathlib.Core.Path.{_≡_, refl}
-use mathlib.Core.Bool.{true}
+use mathlib.Core.Bool.{Bool, true}
 use mathlib.Core.List.{List, [], _∷_}
 use Prim.Native.Nat.{ℕ, zero, suc, _+_, _≤_, min}
 use native.Mathlib.Nat.{min-le-left, min-le-right}
 use native.Mathlib.Omega.{arith}
-use native.Mathlib.Bridge.{le-by-compare, IsLe}
+use lib.Dec.{leb}
+use borrow.Author.Tests.{leb-true}
 use lib.ListN.{getD, drop}
 use Rattle.session.specs.Instructions.{Op}
 use Rattle.session.specs.Calls.{opsOf, tuning, programs, programOf, argumentsOk}
 use Rattle.session.specs.Claim3.{floorIn}
-use Rattle.session.proofs.Table.{by-code}
+use Rattle.session.proofs.Table.{below-pass, by-code}
 use Rattle.session.proofs.Shape.{overOf}
 
 -- the least that is left after an instruction with `over` instructions that a leap leaves out
@@ -28,14 +29,11 @@ leasts (op ∷ ops) = push (overOf op) (leasts ops)
 abbrev pub least : List Op → ℕ
 least ops = getD (leasts ops) 0 0
 
-abbrev FloorOk : ℕ → Type 0
-FloorOk code = floorIn code ≤ least (opsOf (programOf code))
-
 pub floor-law : (code a b : ℕ) → argumentsOk code a b ≡ true → floorIn code ≤ least (opsOf (programOf code))
-unfolding programOf programs floorIn tuning IsLe
-floor-law =
-    by-code FloorOk
-    (le-by-compare 149 149 tt, (le-by-compare 1 1 tt, (le-by-compare 1 1 tt, (le-by-compare 8 8 tt, (le-by-compare 6 6 tt, (le-by-compare 4 4 tt, (le-by-compare 4 4 tt, (le-by-compare 13 13 tt, (le-by-compare 7 7 tt, (le-by-compare 2 2 tt, (le-by-compare 2 2 tt, (le-by-compare 5 5 tt, (le-by-compare 2 2 tt, (le-by-compare 1 1 tt, (le-by-compare 6 6 tt, tt)))))))))))))))
+unfolding programOf programs floorIn tuning
+floor-law code a b e =
+    let test : ℕ → Bool = λ n. leb (floorIn n) (least (opsOf (programOf n))) in
+    leb-true _ _ (by-code (λ n. test n ≡ true) (below-pass test 1 15 refl) code a b e)
 
 leasts-drop : (n : ℕ) (ops : List Op) → getD (leasts ops) n 0 ≡ least (drop n ops)
 leasts-drop zero ops = refl

@@ -1,21 +1,21 @@
 -- A waiting session that a run leaves is not ill-formed, and its transfers stay below the ceiling.
 use mathlib.Core.Path.{_≡_, refl}
-use mathlib.Core.Bool.{true, false, Bool, not}
+use mathlib.Core.Bool.{true, false, Bool}
 use mathlib.Core.List.{List, [], _∷_}
 use Prim.Native.Nat.{ℕ, zero, suc, _+_, _-_, _≤_, _<_, zero-le}
 use native.Mathlib.Nat.{le-refl}
 use native.Mathlib.Omega.{arith}
 use native.Mathlib.Bridge.{le-by-compare, IsLe}
-use lib.Dec.{eqb, ltb}
+use lib.Dec.{eqb, ltb, leb}
 use lib.ListN.{drop}
-use borrow.Author.Tests.{lt-leb, le-ltb, ne-eqb, leb-false, ltb-true}
+use borrow.Author.Tests.{le-leb, lt-leb, le-ltb, ne-eqb, leb-true, leb-false, ltb-true}
 use lib.Seq.{drop-drop}
 use Rattle.session.specs.Bus.{Transfer, Reply, bad, good, Condition, detectorReady, statusReady, started, waitLimit, idleOn}
 use Rattle.session.specs.Instructions.{Verdict, onward, leap, stop, test, Op, write, read, wait, range, Final, success, failure, sendOf, costOf, worst}
-use Rattle.session.specs.Calls.{Program, opsOf, tuning, programs, programOf, ceilings, ceilingOf, argumentsOk}
+use Rattle.session.specs.Calls.{opsOf, tuning, programs, programOf, ceilings, ceilingOf, argumentsOk}
 use Rattle.session.specs.Machine.{Session, Outcome, sent, answered, refused, broken, contextOf, keptOf, sending, conclude, enter, arrive, decide, react, idleWrong, upWrong, malformed, begun, notUp}
 use Rattle.session.proofs.Facts.{cond-case, or-false, not-of-true, drop-next}
-use Rattle.session.proofs.Table.{of-table, code-nonzero}
+use Rattle.session.proofs.Table.{of-test, code-nonzero}
 
 -- a wait reads at least once
 pub limit-positive : (code : ℕ) (x : Condition) → 1 ≤ waitLimit code x
@@ -24,14 +24,9 @@ limit-positive code detectorReady = le-by-compare 1 65535 tt
 limit-positive code statusReady = le-by-compare 1 10000 tt
 limit-positive code started = le-by-compare 1 10000 tt
 
-abbrev CeilingOk : ℕ → Program → Type 0
-CeilingOk code p = worst code (opsOf p) ≤ ceilingOf code
-
 pub ceiling-law : (code : ℕ) → worst code (opsOf (programOf code)) ≤ ceilingOf code
-unfolding programs ceilingOf ceilings tuning IsLe
-ceiling-law =
-    of-table CeilingOk (λ k. zero-le)
-    (le-by-compare 0 0 tt, (le-by-compare 85688 85688 tt, (le-by-compare 1 1 tt, (le-by-compare 1 1 tt, (le-by-compare 10 10 tt, (le-by-compare 6 6 tt, (le-by-compare 4 4 tt, (le-by-compare 10003 10003 tt, (le-by-compare 20011 20011 tt, (le-by-compare 7 7 tt, (le-by-compare 2 2 tt, (le-by-compare 2 2 tt, (le-by-compare 5 5 tt, (le-by-compare 2 2 tt, (le-by-compare 1 1 tt, (le-by-compare 6 6 tt, tt))))))))))))))))
+unfolding programs ceilingOf ceilings tuning
+ceiling-law code = leb-true _ _ (of-test (λ k p. leb (worst k (opsOf p)) (ceilingOf k)) (λ k. le-leb 0 (ceilingOf k) zero-le) refl code)
 
 pub code-test : (code a b : ℕ) → argumentsOk code a b ≡ true → eqb code 0 ≡ false
 code-test code a b e = ne-eqb code 0 (code-nonzero code a b e)

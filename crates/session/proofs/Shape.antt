@@ -8,10 +8,10 @@ use lib.ListN.{drop}
 use Rattle.session.specs.Bus.{transferOf, Condition, detectorReady, statusReady, started, waitRegister}
 use Rattle.session.specs.Instructions.{Context, Op, write, read, wait, range, sendOf}
 use Rattle.session.specs.Steps.{slot}
-use Rattle.session.specs.Calls.{Program, opsOf, tuning, programs, programOf}
+use Rattle.session.specs.Calls.{opsOf, tuning, programs, programOf}
 use Rattle.session.specs.Claim3.{wrote, asks}
 use Rattle.session.proofs.Facts.{both}
-use Rattle.session.proofs.Table.{of-table}
+use Rattle.session.proofs.Table.{of-test}
 
 abbrev pub sameOn : Condition → Condition → Bool
 sameOn detectorReady detectorReady = true
@@ -122,28 +122,18 @@ abbrev pub steady : ℕ → List Op → Context → Bool
 steady code [] c = true
 steady code (op ∷ ops) c = (tells code op c && (leads code op c ops && landsOk op ops)) && steady code ops c
 
-abbrev SteadyOk : ℕ → Program → Type 0
-SteadyOk code p = (c : Context) → steady code (opsOf p) c ≡ true
-
 pub steady-law : (code : ℕ) (c : Context) → steady code (opsOf (programOf code)) c ≡ true
 unfolding programs tuning
-steady-law =
-    of-table SteadyOk (λ k c. refl)
-    (λ c. refl, (λ c. refl, (λ c. refl, (λ c. refl, (λ c. refl, (λ c. refl, (λ c. refl, (λ c. refl, (λ c. refl, (λ c. refl, (λ c. refl, (λ c. refl, (λ c. refl, (λ c. refl, (λ c. refl, (λ c. refl, tt))))))))))))))))
+steady-law code c = of-test (λ k p. steady k (opsOf p) c) (λ k. refl) refl code
 
 -- a call's first instruction is no detector wait
 abbrev pub firstOk : List Op → Bool
 firstOk [] = true
 firstOk (op ∷ ops) = not (waitsOn detectorReady op)
 
-abbrev OpensOk : ℕ → Program → Type 0
-OpensOk code p = firstOk (opsOf p) ≡ true
-
 pub opens-law : (code : ℕ) → firstOk (opsOf (programOf code)) ≡ true
 unfolding programs
-opens-law =
-    of-table OpensOk (λ k. refl)
-    (refl, (refl, (refl, (refl, (refl, (refl, (refl, (refl, (refl, (refl, (refl, (refl, (refl, (refl, (refl, (refl, tt))))))))))))))))
+opens-law = of-test (λ k p. firstOk (opsOf p)) (λ k. refl) refl
 
 steady-drop : (code k : ℕ) (l : List Op) (c : Context) → steady code l c ≡ true → steady code (drop k l) c ≡ true
 steady-drop code zero l c h = h

@@ -11,10 +11,10 @@ use lib.ListN.{length, take, drop}
 use Rattle.session.specs.Bus.{padTo, transferOf, zeroFrom, waitRegister}
 use Rattle.session.specs.Instructions.{Context, Op, write, read, wait, range, sendOf}
 use Rattle.session.specs.Steps.{slot}
-use Rattle.session.specs.Calls.{Program, opsOf, tuning, programs, programOf}
+use Rattle.session.specs.Calls.{opsOf, tuning, programs, programOf}
 use Rattle.session.specs.Claim1.{isLength, OnTheBus, Says}
 use Rattle.session.proofs.Facts.{both, clash}
-use Rattle.session.proofs.Table.{of-table}
+use Rattle.session.proofs.Table.{of-test}
 
 abbrev sized : Op → Context → Bool
 sized (write reg bytes len over after) c = leb (length (bytes c)) 6 && isLength len
@@ -26,14 +26,9 @@ abbrev allSized : List Op → Context → Bool
 allSized [] c = true
 allSized (op ∷ ops) c = sized op c && allSized ops c
 
-abbrev SizedOk : ℕ → Program → Type 0
-SizedOk code p = (c : Context) → allSized (opsOf p) c ≡ true
-
 sized-law : (code : ℕ) (c : Context) → allSized (opsOf (programOf code)) c ≡ true
 unfolding programs tuning
-sized-law =
-    of-table SizedOk (λ k c. refl)
-    (λ c. refl, (λ c. refl, (λ c. refl, (λ c. refl, (λ c. refl, (λ c. refl, (λ c. refl, (λ c. refl, (λ c. refl, (λ c. refl, (λ c. refl, (λ c. refl, (λ c. refl, (λ c. refl, (λ c. refl, (λ c. refl, tt))))))))))))))))
+sized-law code c = of-test (λ k p. allSized (opsOf p) c) (λ k. refl) refl code
 
 sized-at : (k : ℕ) (l : List Op) (c : Context) {op : Op} {rest : List Op} → allSized l c ≡ true → drop k l ≡ op ∷ rest → sized op c ≡ true
 sized-at zero [] c h e = clash cc

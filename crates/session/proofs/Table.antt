@@ -1,6 +1,6 @@
--- A law of every call from one proof for each row of the table.
+-- A law of every call: from one test that is computed over the table, or from a proof for each row.
 use mathlib.Core.Path.{_≡_, sym, subst, _∙_}
-use mathlib.Core.Bool.{true, _&&_}
+use mathlib.Core.Bool.{Bool, true, _&&_}
 use mathlib.Core.List.{List, [], _∷_}
 use Prim.Native.Nat.{ℕ, zero, suc, _+_, _-_, _<_, _≤_}
 use native.Mathlib.Nat.{add-zero, zero-add, add-suc, suc-add, le-of-suc-le-suc, not-suc-le-zero}
@@ -25,6 +25,18 @@ pub of-table : (P : ℕ → Program → Type 0) → ((k : ℕ) → P k nothing) 
 unfolding programOf
 of-table P n t code = subst (λ m. P m (getD programs code nothing)) (zero-add code) (from P n programs 0 t code)
 
+-- a test that each row passes, counted from i
+abbrev pub allRows : (ℕ → Program → Bool) → ℕ → List Program → Bool
+allRows test i [] = true
+allRows test i (p ∷ ps) = test i p && allRows test (suc i) ps
+
+rows-pass : (test : ℕ → Program → Bool) (i : ℕ) (ps : List Program) → allRows test i ps ≡ true → AllFrom (λ k p. test k p ≡ true) i ps
+rows-pass test i [] e = tt
+rows-pass test i (p ∷ ps) e = let q = both (test i p) (allRows test (suc i) ps) e in (q .0, rows-pass test (suc i) ps (q .1))
+
+pub of-test : (test : ℕ → Program → Bool) → ((k : ℕ) → test k nothing ≡ true) → allRows test 0 programs ≡ true → (code : ℕ) → test code (programOf code) ≡ true
+of-test test n e = of-table (λ k p. test k p ≡ true) n (rows-pass test 0 programs e)
+
 -- a claim at each number below n
 abbrev pub AllBelow : (ℕ → Type 0) → ℕ → ℕ → Type 0
 AllBelow P i zero = Unit {0}
@@ -34,6 +46,15 @@ pub below : (P : ℕ → Type 0) (i n : ℕ) → AllBelow P i n → (k : ℕ) �
 below P i zero t k h = absurd (not-suc-le-zero h)
 below P i (suc n) t zero h = subst P (sym (add-zero i)) (t .0)
 below P i (suc n) t (suc k) h = subst P (suc-add i k ∙ sym (add-suc i k)) (below P (suc i) n (t .1) k (le-of-suc-le-suc h))
+
+-- and a test
+abbrev pub allBelow : (ℕ → Bool) → ℕ → ℕ → Bool
+allBelow test i zero = true
+allBelow test i (suc n) = test i && allBelow test (suc i) n
+
+pub below-pass : (test : ℕ → Bool) (i n : ℕ) → allBelow test i n ≡ true → AllBelow (λ k. test k ≡ true) i n
+below-pass test i zero e = tt
+below-pass test i (suc n) e = let q = both (test i) (allBelow test (suc i) n) e in (q .0, below-pass test (suc i) n (q .1))
 
 code-in : (code a b : ℕ) → argumentsOk code a b ≡ true → (1 ≤ code) × (code ≤ topCode)
 unfolding argumentsOk

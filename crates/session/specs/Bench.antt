@@ -8,9 +8,8 @@ use lib.ListN.{replicate}
 use lib.Seq.{sets}
 use Rattle.session.specs.Bus.{Driver, Answer, byte, transferOf, numberOf, valuesOf}
 use Rattle.session.specs.Instructions.{timingSlot}
-use Rattle.session.specs.Machine.{Session, Outcome, sent, answered, refused, broken, zeros, resting, freshSession, replyDef}
+use Rattle.session.specs.Machine.{Session, Outcome, sent, answered, broken, zeros, resting, freshSession, replyDef}
 use Rattle.session.specs.Records.{call, reply, other, callBytes, replyBytes, recordsOf, stepDef}
-use Rattle.session.specs.RustBringUp.{pair}
 use Rattle.session.specs.History.{transfer, answer, refusal, Entry, runDef}
 use Rattle.session.specs.Claim1.{refusalNumber}
 

@@ -13,7 +13,7 @@ use Rattle.session.specs.Calls.{opsOf, programOf}
 use Rattle.session.specs.Machine.{Session, Outcome, sent, answered, refused, broken, resting, contextOf, malformed, illFormed}
 use Rattle.session.specs.Records.{Record, call, recordsOf, stepDef}
 use Rattle.session.specs.Refusals.{refusals, firstOf, atOnce, firstAnswer}
-use Rattle.session.specs.History.{answer, Entry, callsIn, answersIn, repliesIn, transfersIn, refusedIn, Run, sessionAfter, Genuine, inOrder}
+use Rattle.session.specs.History.{Entry, callsIn, answersIn, repliesIn, transfersIn, refusedIn, Run, sessionAfter, Genuine, inOrder}
 
 -- the transfer that a waiting session has out
 abbrev pub firstOut : List Op → Context → Transfer
