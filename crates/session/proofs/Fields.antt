@@ -39,14 +39,14 @@ module _ (code : ℕ) (six : Six code) (l : List ℕ) (own : ℕ) (ex : List Exc
   unfolding IsLe
   own-is =
       let qo : own ≡ budgetIn timingSlot l = ow (six .owns) .is (ow (six .owns) .law) in
-      let q01 : byte 8 l ≡ firstByte 0x01 0 ex = tr (reads 0x01 8 1) (six .s01) .bytes 0 (le-by-compare 1 1 tt) in
-      let q51 : byte 9 l ≡ firstByte 0x51 0 ex = tr (reads 0x51 9 2) (six .s51) .bytes 0 (le-by-compare 1 2 tt) in
-      let q51′ : byte 10 l ≡ firstByte 0x51 1 ex = tr (reads 0x51 9 2) (six .s51) .bytes 1 (le-by-compare 2 2 tt) in
-      let q71 : byte 11 l ≡ firstByte 0x71 0 ex = tr (reads 0x71 11 2) (six .s71) .bytes 0 (le-by-compare 1 2 tt) in
-      let q71′ : byte 12 l ≡ firstByte 0x71 1 ex = tr (reads 0x71 11 2) (six .s71) .bytes 1 (le-by-compare 2 2 tt) in
-      let q50 : byte 13 l ≡ firstByte 0x50 0 ex = tr (reads 0x50 13 1) (six .s50) .bytes 0 (le-by-compare 1 1 tt) in
-      let q46 : byte 14 l ≡ firstByte 0x46 0 ex = tr (reads 0x46 14 1) (six .s46) .bytes 0 (le-by-compare 1 1 tt) in
-      let q70 : byte 15 l ≡ firstByte 0x70 0 ex = tr (reads 0x70 15 1) (six .s70) .bytes 0 (le-by-compare 1 1 tt) in
+      let q01 : byte 8 l ≡ firstByte 0x01 0 ex = tr (reads 0x01 8 1) (six .s01) .bytes 0 (le-by-compare _ _ tt) in
+      let q51 : byte 9 l ≡ firstByte 0x51 0 ex = tr (reads 0x51 9 2) (six .s51) .bytes 0 (le-by-compare _ _ tt) in
+      let q51′ : byte 10 l ≡ firstByte 0x51 1 ex = tr (reads 0x51 9 2) (six .s51) .bytes 1 (le-by-compare _ _ tt) in
+      let q71 : byte 11 l ≡ firstByte 0x71 0 ex = tr (reads 0x71 11 2) (six .s71) .bytes 0 (le-by-compare _ _ tt) in
+      let q71′ : byte 12 l ≡ firstByte 0x71 1 ex = tr (reads 0x71 11 2) (six .s71) .bytes 1 (le-by-compare _ _ tt) in
+      let q50 : byte 13 l ≡ firstByte 0x50 0 ex = tr (reads 0x50 13 1) (six .s50) .bytes 0 (le-by-compare _ _ tt) in
+      let q46 : byte 14 l ≡ firstByte 0x46 0 ex = tr (reads 0x46 14 1) (six .s46) .bytes 0 (le-by-compare _ _ tt) in
+      let q70 : byte 15 l ≡ firstByte 0x70 0 ex = tr (reads 0x70 15 1) (six .s70) .bytes 0 (le-by-compare _ _ tt) in
       qo
       ∙ (λ i. timeIn (measurementTimingBudget (registersOf (q01 i ∷ q51 i ∷ q51′ i ∷ q71 i ∷ q71′ i ∷ q50 i ∷ q46 i ∷ q70 i ∷ []))) .0)
       ∙ sym (value-is (firstByte 0x01 0 ex) (firstByte 0x51 0 ex) (firstByte 0x51 1 ex) (firstByte 0x71 0 ex) (firstByte 0x71 1 ex) (firstByte 0x50 0 ex) (firstByte 0x46 0 ex) (firstByte 0x70 0 ex))
@@ -65,7 +65,7 @@ value-15 = own-is 15 six-15
 fields-1 : (l : List ℕ) (own : ℕ) (ex : List Exchange) → ((t : Track) → Sound t 1 → Traced t l [] ex) → (Owns 1 → Owned own l [] ex) → (a : ℕ) → broughtUp a l own ≡ upBy a ex
 unfolding programOf programs tuning IsLe
 fields-1 l own ex tr ow a =
-    let q91 : byte 1 l ≡ _ = tr (reads 0x91 1 1) refl .bytes 0 (le-by-compare 1 1 tt) in
+    let q91 : byte 1 l ≡ _ = tr (reads 0x91 1 1) refl .bytes 0 (le-by-compare _ _ tt) in
     let qb : own ≡ budgetOfFirst ex = own-is 1 six-1 l own ex tr ow in
     λ i. record { up = true; address = a; stop = q91 i; budget = qb i }
 

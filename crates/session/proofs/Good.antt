@@ -20,9 +20,9 @@ use Rattle.session.proofs.Table.{of-test, code-nonzero}
 -- a wait reads at least once
 pub limit-positive : (code : ℕ) (x : Condition) → 1 ≤ waitLimit code x
 unfolding IsLe
-limit-positive code detectorReady = le-by-compare 1 65535 tt
-limit-positive code statusReady = le-by-compare 1 10000 tt
-limit-positive code started = le-by-compare 1 10000 tt
+limit-positive code detectorReady = le-by-compare _ _ tt
+limit-positive code statusReady = le-by-compare _ _ tt
+limit-positive code started = le-by-compare _ _ tt
 
 pub ceiling-law : (code : ℕ) → worst code (opsOf (programOf code)) ≤ ceilingOf code
 unfolding programs ceilingOf ceilings tuning

@@ -46,14 +46,14 @@ pub record Owned (own : ℕ) (carried : List ℕ) (ops : List Op) (ex : List Exc
 eight : (l l′ : List ℕ) → ((i : ℕ) → i < 8 → byte (8 + i) l′ ≡ byte (8 + i) l) → bytesFrom 8 8 l′ ≡ bytesFrom 8 8 l
 unfolding IsLe
 eight l l′ q =
-    let q0 : byte 8 l′ ≡ byte 8 l = q 0 (le-by-compare 1 8 tt) in
-    let q1 : byte 9 l′ ≡ byte 9 l = q 1 (le-by-compare 2 8 tt) in
-    let q2 : byte 10 l′ ≡ byte 10 l = q 2 (le-by-compare 3 8 tt) in
-    let q3 : byte 11 l′ ≡ byte 11 l = q 3 (le-by-compare 4 8 tt) in
-    let q4 : byte 12 l′ ≡ byte 12 l = q 4 (le-by-compare 5 8 tt) in
-    let q5 : byte 13 l′ ≡ byte 13 l = q 5 (le-by-compare 6 8 tt) in
-    let q6 : byte 14 l′ ≡ byte 14 l = q 6 (le-by-compare 7 8 tt) in
-    let q7 : byte 15 l′ ≡ byte 15 l = q 7 (le-by-compare 8 8 tt) in
+    let q0 : byte 8 l′ ≡ byte 8 l = q 0 (le-by-compare _ _ tt) in
+    let q1 : byte 9 l′ ≡ byte 9 l = q 1 (le-by-compare _ _ tt) in
+    let q2 : byte 10 l′ ≡ byte 10 l = q 2 (le-by-compare _ _ tt) in
+    let q3 : byte 11 l′ ≡ byte 11 l = q 3 (le-by-compare _ _ tt) in
+    let q4 : byte 12 l′ ≡ byte 12 l = q 4 (le-by-compare _ _ tt) in
+    let q5 : byte 13 l′ ≡ byte 13 l = q 5 (le-by-compare _ _ tt) in
+    let q6 : byte 14 l′ ≡ byte 14 l = q 6 (le-by-compare _ _ tt) in
+    let q7 : byte 15 l′ ≡ byte 15 l = q 7 (le-by-compare _ _ tt) in
     rw (q0, q1, q2, q3, q4, q5, q6, q7)
 
 budget-same : (l l′ : List ℕ) → ((i : ℕ) → i < 8 → byte (8 + i) l′ ≡ byte (8 + i) l) → budgetIn timingSlot l′ ≡ budgetIn timingSlot l

@@ -19,12 +19,12 @@ use Rattle.session.proofs.Sized.{sent-to, on-the-bus}
 -- the answers that end a call
 stop-answers : (x : Stop) → numberOf (stopAnswer x) ≤ 8
 unfolding IsLe
-stop-answers declines = le-by-compare 1 8 tt
-stop-answers (wrongDevice b) = le-by-compare 2 8 tt
-stop-answers (wrongAddress a) = le-by-compare 5 8 tt
-stop-answers wrongArgument = le-by-compare 6 8 tt
-stop-answers unready = le-by-compare 7 8 tt
-stop-answers (panics p) = le-by-compare 8 8 tt
+stop-answers declines = le-by-compare _ _ tt
+stop-answers (wrongDevice b) = le-by-compare _ _ tt
+stop-answers (wrongAddress a) = le-by-compare _ _ tt
+stop-answers wrongArgument = le-by-compare _ _ tt
+stop-answers unready = le-by-compare _ _ tt
+stop-answers (panics p) = le-by-compare _ _ tt
 
 module _ (s : Session) where
   gives : (x : Answer) (t : Session) → numberOf x ≤ 8 → Single s (giving x t)
@@ -32,11 +32,11 @@ module _ (s : Session) where
 
   fails : (e : ℕ) (t : Session) → Single s (giving (Answer.BusError e) t)
   unfolding IsLe
-  fails e t = gives (Answer.BusError e) t (le-by-compare 3 8 tt)
+  fails e t = gives (Answer.BusError e) t (le-by-compare _ _ tt)
 
   concludes : (f : Final) (t : Session) → Single s (conclude f t)
   unfolding IsLe
-  concludes (success v d) t = one-answer (Answer.Done v) (t .transfers) _ (le-by-compare 0 8 tt) refl
+  concludes (success v d) t = one-answer (Answer.Done v) (t .transfers) _ (le-by-compare _ _ tt) refl
   concludes (failure e) t = fails e t
 
   arrives : (k : ℕ) (t : Session) → Single s (arrive (programOf (t .code)) k t)
@@ -65,7 +65,7 @@ module _ (s : Session) where
       cond-case (Single s) (idleOn w bs)
       (λ e. cond-case (Single s) (ltb (suc (t .idle)) (waitLimit (t .code) w))
       (λ h. one-transfer _ (sending (t .step) (suc (t .idle)) t) (on-the-bus (t .code) (t .step) (wait w) rest (contextOf t) at) refl (ap (λ l. firstOut l (contextOf t)) (sym at)))
-      (λ h. gives Answer.Timeout t (le-by-compare 4 8 tt)))
+      (λ h. gives Answer.Timeout t (le-by-compare _ _ tt)))
       (λ e. arrives (suc (t .step)) t)
   reacts range rest t (bad e) at = arrives (suc (t .step)) (keptOf t range (bad e))
   reacts range rest t (good bs) at = arrives (suc (t .step)) (keptOf t range (good bs))
@@ -74,18 +74,18 @@ module _ (s : Session) where
   unfolding stepDef beginDef replyDef otherDef IsLe
   single (call code a b) =
       cond-case (Single s) (illFormed s) (λ e. ill-formed)
-      (λ e. cond-case (Single s) (not (argumentsOk code a b)) (λ e₁. one-refusal Answer.IllFormedRecord (le-by-compare 9 13 tt) (le-by-compare 13 13 tt))
-      (λ e₁. cond-case (Single s) (waitsNow s) (λ e₂. one-refusal Answer.CallWaits (le-by-compare 9 10 tt) (le-by-compare 10 13 tt))
-      (λ e₂. cond-case (Single s) (notUp code (s .driver .up)) (λ e₃. one-refusal Answer.NotUp (le-by-compare 9 9 tt) (le-by-compare 9 13 tt))
+      (λ e. cond-case (Single s) (not (argumentsOk code a b)) (λ e₁. one-refusal Answer.IllFormedRecord (le-by-compare _ _ tt) (le-by-compare _ _ tt))
+      (λ e₁. cond-case (Single s) (waitsNow s) (λ e₂. one-refusal Answer.CallWaits (le-by-compare _ _ tt) (le-by-compare _ _ tt))
+      (λ e₂. cond-case (Single s) (notUp code (s .driver .up)) (λ e₃. one-refusal Answer.NotUp (le-by-compare _ _ tt) (le-by-compare _ _ tt))
       (λ e₃. decides (programOf code .entry (contextOf (begun s code a b))) 0 0 (begun s code a b)))))
   single (reply f bs) =
       cond-case (Single s) (illFormed s) (λ e. ill-formed)
-      (λ e. cond-case (Single s) (not (waitsNow s)) (λ e₁. one-refusal Answer.NoCallWaits (le-by-compare 9 11 tt) (le-by-compare 11 13 tt))
+      (λ e. cond-case (Single s) (not (waitsNow s)) (λ e₁. one-refusal Answer.NoCallWaits (le-by-compare _ _ tt) (le-by-compare _ _ tt))
       (λ e₁. go (drop (s .step) (opsOf (programOf (s .code)))) refl))
     where
       go : (l : List Op) → drop (s .step) (opsOf (programOf (s .code))) ≡ l → Single s (onOps l (programOf (s .code)) s f bs)
       go [] e = ill-formed
       go (op ∷ rest) e =
-          cond-case (Single s) (stray (sendOf op (contextOf s)) f bs) (λ h. one-refusal Answer.StrayByte (le-by-compare 9 12 tt) (le-by-compare 12 13 tt))
+          cond-case (Single s) (stray (sendOf op (contextOf s)) f bs) (λ h. one-refusal Answer.StrayByte (le-by-compare _ _ tt) (le-by-compare _ _ tt))
           (λ h. reacts op rest s (toReply f bs) e)
-  single other = cond-case (Single s) (illFormed s) (λ e. ill-formed) (λ e. one-refusal Answer.IllFormedRecord (le-by-compare 9 13 tt) (le-by-compare 13 13 tt))
+  single other = cond-case (Single s) (illFormed s) (λ e. ill-formed) (λ e. one-refusal Answer.IllFormedRecord (le-by-compare _ _ tt) (le-by-compare _ _ tt))
