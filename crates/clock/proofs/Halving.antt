@@ -11,7 +11,7 @@ use Rattle.clock.specs.Clock.{halvedIn, halved}
 small-is : (n : ℕ) → n < 256 * 2 ^ 0 → n ≤ 255
 small-is n h = omega arith
 
-half-lt : (n p : ℕ) → n < 256 * (2 * p) → n / 2 < 256 * p
+pub half-lt : (n p : ℕ) → n < 256 * (2 * p) → n / 2 < 256 * p
 half-lt n p h = omega arith
 
 -- f halvings bring n to at most 255, so one more changes nothing

@@ -7,10 +7,8 @@ use native.Mathlib.Nat.{zero-add, pow-succ'}
 use lib.Dec.{eqb, ltb, leb}
 use borrow.Author.Tests.{leb-true, leb-false, lt-ltb, le-ltb}
 use Rattle.clock.specs.Clock.{halvedIn, halved, encodeTimeout}
+use Rattle.clock.proofs.Halving.{half-lt}
 use Rattle.session.specs.RustClocks.{encode-loop, encode-timeout}
-
-half-lt : (n p : ℕ) → n < 256 * (2 * p) → n / 2 < 256 * p
-half-lt n p h = omega arith
 
 loop-is : (n e x : ℕ) → x < 256 * 2 ^ n → encode-loop n e x ≡ e * 256 + halvedIn n x
 unfolding halvedIn
