@@ -1,0 +1,20 @@
+-- `steps::ends::address_set` meets its contract.
+use borrow.Author.Needs.{needs}
+use Rattle.steps.proofs.ends.address_set.Statement.{statement}
+use Rattle.steps.proofs.ends.address_set.Tie as tie
+
+held-requires : tie.Need-held-requires
+held-requires c κs = search needs
+
+cast-with-address : tie.Need-cast-with-address
+cast-with-address c = search needs
+
+with-address-requires : tie.Need-with-address-requires
+with-address-requires c κs = search needs
+
+returns : tie.Need-returns
+returns c = cc
+
+pub address-set-spec : {M : Type 1} → statement M
+address-set-spec =
+    tie.close (tie.spec held-requires cast-with-address with-address-requires returns)

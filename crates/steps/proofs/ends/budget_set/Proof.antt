@@ -1,0 +1,16 @@
+-- `steps::ends::budget_set` meets its contract.
+use borrow.Author.Needs.{needs}
+use Rattle.steps.proofs.ends.budget_set.Statement.{statement}
+use Rattle.steps.proofs.ends.budget_set.Tie as tie
+
+held-requires : tie.Need-held-requires
+held-requires c κs = search needs
+
+with-budget-requires : tie.Need-with-budget-requires
+with-budget-requires c κs = search needs
+
+returns : tie.Need-returns
+returns c = cc
+
+pub budget-set-spec : {M : Type 1} → statement M
+budget-set-spec = tie.close (tie.spec held-requires with-budget-requires returns)

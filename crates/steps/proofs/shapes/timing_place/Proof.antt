@@ -1,0 +1,17 @@
+-- `steps::shapes::timing_place` meets its contract.
+use borrow.Author.Needs.{needs}
+use Rattle.steps.proofs.Laws.{rows}
+use Rattle.steps.proofs.shapes.timing_place.Statement.{statement}
+use Rattle.steps.proofs.shapes.timing_place.Tie as tie
+
+array-read-result : tie.Need-array-read-result
+array-read-result c = search needs
+
+returns : tie.Need-returns
+returns c = search needs
+
+returns-2 : tie.Need-returns-2
+returns-2 c = search (needs, rows)
+
+pub timing-place-spec : {M : Type 1} → statement M
+timing-place-spec = tie.close (tie.spec array-read-result returns returns-2)

@@ -1,0 +1,133 @@
+-- What the code needs of an instruction, as plain data: its shape, its transfer, what is kept of its reply, and what a good reply decides.
+-- Each is read off the session's definition of the instruction, `opOf`.
+use mathlib.Core.Bool.{Bool, true, not, cond}
+use mathlib.Core.List.{List}
+use Prim.Native.Nat.{ℕ, _+_, _%_}
+use lib.Dec.{eqb, ltb, leb}
+use Rattle.session.specs.declared.Instruction.{Instruction}
+use Rattle.session.specs.declared.Session.{Session}
+use Rattle.session.specs.declared.Answer.{Answer}
+use Rattle.session.specs.Bus.{Condition, detectorReady, statusReady, started, waitRegister}
+use Rattle.session.specs.Instructions.{Context, stopAnswer, wrongDevice, unready, Verdict, onward, leap, stop, test, Op, write, read, wait, range, rangeSlot, timingSlot, budgetIn, put, bytesFrom}
+use Rattle.session.specs.Steps.{tooShort}
+use Rattle.session.specs.Machine.{heldBy}
+use Rattle.steps.specs.declared.Kind.{Kind}
+use Rattle.steps.specs.declared.Shape.{Shape}
+use Rattle.steps.specs.declared.Next.{Next}
+
+abbrev pub kindOf : Condition → Kind
+kindOf detectorReady = Kind.Detector
+kindOf statusReady = Kind.Status
+kindOf started = Kind.Start
+
+abbrev pub writing : ℕ → ℕ → ℕ → Shape
+writing reg n over = record { kind = Kind.Write; register = reg; reads = n; slot = 0; over = over }
+
+abbrev pub reading : ℕ → ℕ → ℕ → ℕ → Shape
+reading reg n slot over = record { kind = Kind.Read; register = reg; reads = n; slot = slot; over = over }
+
+abbrev pub awaiting : Kind → ℕ → Shape
+awaiting kind reg = record { kind = kind; register = reg; reads = 1; slot = 0; over = 0 }
+
+unfoldable pub shapeOf : Op → Shape
+shapeOf (write reg bytes n over after) = writing reg n over
+shapeOf (read reg n slot over after) = reading reg n slot over
+shapeOf (wait x) = awaiting (kindOf x) (waitRegister x)
+shapeOf range = record { kind = Kind.Range; register = 0x1E; reads = 2; slot = rangeSlot; over = 0 }
+
+-- what an instruction of a session sees, with the address given
+abbrev pub contextAt : ℕ → Session → Context
+contextAt address s =
+    record {
+      code = s .code;
+      driver = heldBy (s .code) (s .driver);
+      address = address;
+      a = s .a;
+      b = s .b;
+      failed = s .failed;
+      own = s .own;
+      carried = s .carried;
+    }
+
+-- arguments that an instruction writes as a byte, or as a word
+unfoldable pub fitsAt : Instruction → ℕ → Bool
+fitsAt Instruction.Nowhere a = true
+fitsAt (Instruction.Write reg b) a = true
+fitsAt (Instruction.WriteOr reg mask) a = true
+fitsAt (Instruction.WriteAnd reg mask) a = true
+fitsAt (Instruction.Read reg k) a = true
+fitsAt (Instruction.ReadWord reg k) a = true
+fitsAt Instruction.Identify a = true
+fitsAt Instruction.ReadMap a = true
+fitsAt Instruction.WriteMap a = true
+fitsAt Instruction.WriteQuarter a = true
+fitsAt Instruction.WriteRate a = true
+fitsAt Instruction.WriteStop a = true
+fitsAt Instruction.Prepared a = true
+fitsAt Instruction.ReadOscillator a = true
+fitsAt Instruction.WritePeriod a = true
+fitsAt Instruction.WriteMode a = true
+fitsAt Instruction.WriteAddress a = leb a 255
+fitsAt Instruction.WriteLow a = leb a 65535
+fitsAt Instruction.WriteHigh a = true
+fitsAt Instruction.WriteFunction a = true
+fitsAt Instruction.WritePolarity a = true
+fitsAt Instruction.ReadStatus a = true
+fitsAt (Instruction.ReadTiming n k) a = true
+fitsAt (Instruction.ReadLast k) a = true
+fitsAt Instruction.WriteSteps a = true
+fitsAt (Instruction.WriteWord k) a = true
+fitsAt Instruction.AwaitDetector a = true
+fitsAt Instruction.AwaitStatus a = true
+fitsAt Instruction.AwaitStart a = true
+fitsAt Instruction.ReadRange a = true
+
+-- what a good reply decides; a read of a wait and the range read go on
+abbrev pub verdictOf : Op → Context → Verdict
+verdictOf (write reg bytes n over after) c = after c
+verdictOf (read reg n slot over after) c = after c
+verdictOf (wait x) c = onward
+verdictOf range c = onward
+
+-- with its tests made
+unfoldable pub settled : Verdict → Next
+settled onward = Next.Onward
+settled leap = Next.Leap
+settled (stop x) = Next.Stop (stopAnswer x)
+settled (test b v w) = cond b (settled v) (settled w)
+
+-- the verdicts of the instructions that have one of their own
+abbrev pub identified : ℕ → Verdict
+identified b = test (eqb b 0xEE) onward (stop (wrongDevice b))
+
+abbrev pub prepared : ℕ → Verdict
+prepared period = test (not (eqb period 0)) onward leap
+
+abbrev pub ready : ℕ → Verdict
+ready status = test (eqb (status % 8) 0) (stop unready) onward
+
+abbrev pub stepsWritten : ℕ → Verdict
+stepsWritten own = test (tooShort own) leap onward
+
+unfoldable pub timedNext : ℕ → Next
+timedNext period = cond (ltb 4294967295 period) (Next.Stop (Answer.Panic 1)) Next.Onward
+
+-- the budget, once the last of the first six budget replies is kept
+unfoldable pub ownOf : ℕ → List ℕ → ℕ → ℕ
+ownOf slot carried own = cond (eqb slot (timingSlot + 7)) (budgetIn timingSlot carried) own
+
+-- a session that has kept n bytes of a reply from a slot on
+unfoldable pub keeping : ℕ → ℕ → Session → List ℕ → Session
+keeping slot n s bs =
+    record {
+      driver = s .driver;
+      code = s .code;
+      a = s .a;
+      b = s .b;
+      step = s .step;
+      idle = s .idle;
+      transfers = s .transfers;
+      failed = s .failed;
+      own = ownOf slot (put (s .carried) slot (bytesFrom 0 n bs)) (s .own);
+      carried = put (s .carried) slot (bytesFrom 0 n bs);
+    }
