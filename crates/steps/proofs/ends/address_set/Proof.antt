@@ -1,5 +1,8 @@
 -- `steps::ends::address_set` meets its contract.
 use borrow.Author.Needs.{needs}
+use mathlib.Core.Path.{ap}
+use Rattle.session.specs.declared.Driver.{Driver}
+use Rattle.steps.specs.declared.End.{End}
 use Rattle.steps.proofs.ends.address_set.Statement.{statement}
 use Rattle.steps.proofs.ends.address_set.Tie as tie
 
@@ -13,7 +16,7 @@ with-address-requires : tie.Need-with-address-requires
 with-address-requires c κs = search needs
 
 returns : tie.Need-returns
-returns c = cc
+returns c = ap (λ (d : Driver). End.Success 0 d) (rw (c .before .before .held .ensures) at (c .with-address .ensures))
 
 pub address-set-spec : {M : Type 1} → statement M
 address-set-spec =

@@ -1,5 +1,8 @@
 -- `steps::ends::budget_set` meets its contract.
 use borrow.Author.Needs.{needs}
+use mathlib.Core.Path.{ap}
+use Rattle.session.specs.declared.Driver.{Driver}
+use Rattle.steps.specs.declared.End.{End}
 use Rattle.steps.proofs.ends.budget_set.Statement.{statement}
 use Rattle.steps.proofs.ends.budget_set.Tie as tie
 
@@ -10,7 +13,7 @@ with-budget-requires : tie.Need-with-budget-requires
 with-budget-requires c κs = search needs
 
 returns : tie.Need-returns
-returns c = cc
+returns c = ap (λ (d : Driver). End.Success 0 d) (rw (c .before .held .ensures) at (c .with-budget .ensures))
 
 pub budget-set-spec : {M : Type 1} → statement M
 budget-set-spec = tie.close (tie.spec held-requires with-budget-requires returns)

@@ -13,7 +13,7 @@ read-requires : tie.Need-read-requires
 read-requires c κs = search needs
 
 returns : tie.Need-returns
-returns c = cc
+returns c = rw (c .before .before .timing-register .ensures, c .before .timing-length .ensures) at (c .read .ensures)
 
 pub read-timing-spec : {M : Type 1} → statement M
 read-timing-spec =

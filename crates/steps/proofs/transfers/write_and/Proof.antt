@@ -13,7 +13,7 @@ write-requires : tie.Need-write-requires
 write-requires c κs = search needs
 
 returns : tie.Need-returns
-returns c = cc
+returns c = rw (c .before .and-byte .ensures) at (c .write .ensures)
 
 pub write-and-spec : {M : Type 1} → statement M
 write-and-spec =

@@ -13,7 +13,7 @@ write-word-requires : tie.Need-write-word-requires
 write-word-requires c κs = search needs
 
 returns : tie.Need-returns
-returns c = cc
+returns c = rw (c .before .word-in .ensures, c .before .before .word-to-set .ensures) at (c .write-word .ensures)
 
 pub write-final-word-spec : {M : Type 1} → statement M
 write-final-word-spec =

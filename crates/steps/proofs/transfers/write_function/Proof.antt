@@ -10,7 +10,7 @@ write-requires : tie.Need-write-requires
 write-requires c κs = search needs
 
 returns : tie.Need-returns
-returns c = cc
+returns c = rw (c .before .function-byte .ensures) at (c .write .ensures)
 
 pub write-function-spec : {M : Type 1} → statement M
 write-function-spec = tie.close (tie.spec function-byte-requires write-requires returns)

@@ -10,7 +10,7 @@ write-requires : tie.Need-write-requires
 write-requires c κs = search needs
 
 returns : tie.Need-returns
-returns c = cc
+returns c = rw (c .before .mode .ensures) at (c .write .ensures)
 
 pub write-mode-spec : {M : Type 1} → statement M
 write-mode-spec = tie.close (tie.spec mode-requires write-requires returns)

@@ -13,7 +13,7 @@ write-long-requires : tie.Need-write-long-requires
 write-long-requires c κs = search needs
 
 returns : tie.Need-returns
-returns c = cc
+returns c = rw (c .before .timed-period .ensures, c .before .before .oscillator-word .ensures) at (c .write-long .ensures)
 
 pub write-period-spec : {M : Type 1} → statement M
 write-period-spec =

@@ -13,7 +13,7 @@ write-requires : tie.Need-write-requires
 write-requires c κs = search needs
 
 returns : tie.Need-returns
-returns c = cc
+returns c = rw (c .before .polarity-byte .ensures) at (c .write .ensures)
 
 pub write-polarity-spec : {M : Type 1} → statement M
 write-polarity-spec =

@@ -13,7 +13,7 @@ write-word-requires : tie.Need-write-word-requires
 write-word-requires c κs = search needs
 
 returns : tie.Need-returns
-returns c = cc
+returns c = rw (c .before .rate-in .ensures, c .before .before .signal-rate-limit-word .ensures) at (c .write-word .ensures)
 
 pub write-rate-spec : {M : Type 1} → statement M
 write-rate-spec =

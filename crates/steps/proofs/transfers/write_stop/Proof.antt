@@ -10,7 +10,7 @@ write-requires : tie.Need-write-requires
 write-requires c κs = search needs
 
 returns : tie.Need-returns
-returns c = cc
+returns c = rw (c .before .held .ensures) at (c .write .ensures)
 
 pub write-stop-spec : {M : Type 1} → statement M
 write-stop-spec = tie.close (tie.spec held-requires write-requires returns)

@@ -12,7 +12,7 @@ by-word-requires c κs = search needs
 
 returns : tie.Need-returns
 unfolding settled
-returns c = cc
+returns c = rw (c .before .word-to-set .ensures) at (c .by-word .ensures)
 
 pub last-read-spec : {M : Type 1} → statement M
 last-read-spec = tie.close (tie.spec word-to-set-requires by-word-requires returns)

@@ -15,7 +15,7 @@ by-place-requires c κs = search needs
 
 returns : tie.Need-returns
 unfolding settled
-returns c = cc
+returns c = rw (c .before .first-place .ensures, c .before .before .timing-in .ensures) at (c .by-place .ensures)
 
 pub timing-read-spec : {M : Type 1} → statement M
 timing-read-spec =
