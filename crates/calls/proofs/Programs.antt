@@ -2,13 +2,13 @@
 use mathlib.Core.Path.{_≡_, refl, sym, _∙_, ap}
 use mathlib.Core.List.{List, [], _∷_, map}
 use Prim.Native.Nat.{ℕ, zero, suc}
-use lib.ListN.{getD}
+use lib.ListN.{length, getD}
 use Rattle.session.specs.declared.Instruction.{Instruction}
-use Rattle.session.specs.Calls.{Program, programs, programOf}
+use Rattle.session.specs.Calls.{Program, nothing, tuning, programs, programOf}
 use Rattle.calls.specs.declared.Call.{Call}
-use Rattle.calls.specs.Calls.{calls, callOf, programFor, stepOf, instructionAt}
+use Rattle.calls.specs.Calls.{calls, callOf, programFor, stepOf, instructionAt, stepsIn}
 
-getD-map : {A B : Type 0} (f : A → B) (l : List A) (i : ℕ) (d : A) → getD (map f l) i (f d) ≡ f (getD l i d)
+pub getD-map : {A B : Type 0} (f : A → B) (l : List A) (i : ℕ) (d : A) → getD (map f l) i (f d) ≡ f (getD l i d)
 getD-map f [] i d = refl
 getD-map f (x ∷ l) zero d = refl
 getD-map f (x ∷ l) (suc i) d = getD-map f l i d
@@ -20,6 +20,21 @@ named = refl
 pub program-named : (code : ℕ) → programOf code ≡ programFor (callOf code)
 unfolding programOf callOf programFor calls programs
 program-named code = getD-map programFor calls code Call.Nothing
+
+-- the lengths of the lists, by computing them
+abbrev pub lengths : List ℕ
+lengths = 0 ∷ 156 ∷ 1 ∷ 1 ∷ 10 ∷ 6 ∷ 4 ∷ 4 ∷ 13 ∷ 7 ∷ 2 ∷ 2 ∷ 5 ∷ 2 ∷ 1 ∷ 6 ∷ []
+
+abbrev stepCount : Program → ℕ
+stepCount p = length (p .steps)
+
+counted : map stepCount programs ≡ lengths
+unfolding programs tuning
+counted = refl
+
+pub steps-counted : (code : ℕ) → getD lengths code 0 ≡ stepsIn code
+unfolding stepsIn programOf
+steps-counted code = ap (λ (l : List ℕ). getD l code 0) (sym counted) ∙ getD-map stepCount programs code nothing
 
 -- for `search`: the steps of a call that is known
 pub known-steps : (x k : Call) (n : ℕ) (r : Instruction) → x ≡ k → r ≡ stepOf (programFor k .steps) n → r ≡ stepOf (programFor x .steps) n

@@ -1,7 +1,7 @@
 -- The calls by name, and the instruction of a call at a step.
 use mathlib.Core.List.{List, [], _∷_}
 use Prim.Native.Nat.{ℕ}
-use lib.ListN.{getD}
+use lib.ListN.{length, getD}
 use Rattle.session.specs.declared.Instruction.{Instruction}
 use Rattle.session.specs.Calls.{Program, nothing, withAddressCall, whoAmI, setAddress, startContinuous, stopContinuous, readRangeMm, readRangeContinuous, readRangeSingle, setBudget, setThresholds, getThresholds, setGpioConfig, clearInterruptStatus, setSignalRateLimit, getBudget, programOf}
 use Rattle.calls.specs.declared.Call.{Call}
@@ -41,3 +41,6 @@ stepOf l i = getD l i Instruction.Nowhere
 -- the instruction at which a call with this code stands at a step
 unfoldable pub instructionAt : ℕ → ℕ → Instruction
 instructionAt code step = stepOf (programOf code .steps) step
+
+unfoldable pub stepsIn : ℕ → ℕ
+stepsIn code = length (programOf code .steps)

@@ -6,7 +6,7 @@ mod tables;
 mod tuning;
 
 ghost use mathlib.Core.Path.{_≡_};
-ghost use Rattle.calls.specs.Calls.{callOf, programFor, stepOf, instructionAt};
+ghost use Rattle.calls.specs.Calls.{callOf, programFor, stepOf, instructionAt, stepsIn};
 use session::Instruction;
 
 // The calls, by the names of lib.rs; `Nothing` for codes that are none.
@@ -77,6 +77,16 @@ fn step_of(call: Call, step: u8) -> Instruction
         Call::SetSignalRateLimit => tables::set_signal_rate_limit(step),
         Call::GetBudget => sections::budget_reads(step),
     }
+}
+
+const LENGTHS: [u8; 16] = [0, 156, 1, 1, 10, 6, 4, 4, 13, 7, 2, 2, 5, 2, 1, 6];
+
+// How many instructions the call with this code has.
+pub fn steps_in(code: u8) -> u8
+    ensures { λ r. ⌜ r ≡ stepsIn code ⌝ }
+{
+    let i = code as usize;
+    if i < 16 { LENGTHS[i] } else { 0 }
 }
 
 // The instruction of the call with this code at a step; past the call's end, or for a code that is no call, there is none.

@@ -1,5 +1,5 @@
 -- Small facts on tests and lists.
-use mathlib.Core.Path.{_≡_, refl, ap, _∙_}
+use mathlib.Core.Path.{_≡_, refl, sym, ap, _∙_}
 use mathlib.Core.Bool.{Bool, true, false, not, _||_, _&&_, cond}
 use mathlib.Core.List.{List, [], _∷_}
 use Prim.Native.Nat.{ℕ, zero, suc}
@@ -45,3 +45,7 @@ clash h = absurd (omega arith)
 -- a test cannot be true and false
 pub untrue : {A : Type 0} → false ≡ true → A
 untrue h = clash cc
+
+pub or-parts : (a b : Bool) → a || b ≡ false → (a ≡ false) × (b ≡ false)
+or-parts true b h = untrue (sym h)
+or-parts false b h = (refl, h)

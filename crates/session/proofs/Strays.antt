@@ -15,7 +15,7 @@ use Rattle.session.specs.Instructions.{Op, sendOf}
 use Rattle.session.specs.Calls.{opsOf, programOf, ceilingOf, argumentsOk}
 use Rattle.session.specs.Machine.{Session, refused, contextOf, toReply, stray, onOps, idleWrong, upWrong, malformed, waitsNow, illFormed, replyDef}
 use Rattle.session.specs.Claim1.{firstOut, refusalNumber, Stray, past-length, beside-failure, Refused12, Accepts}
-use Rattle.session.proofs.Facts.{cond-case, both, clash, untrue}
+use Rattle.session.proofs.Facts.{cond-case, both, clash, untrue, or-parts}
 use Rattle.session.proofs.Cut.{stray-is}
 use Rattle.session.proofs.Accepts.{react-accepts}
 
@@ -52,10 +52,6 @@ is-stray t (suc k) bs (beside-failure e i h) = stray-is t (suc k) bs ∙ go (zer
     go : (b : Bool) → zeroFrom 0 bs ≡ b → not b ≡ true
     go true q = absurd (h (all-zero 0 bs q i zero-le))
     go false q = refl
-
-or-parts : (a b : Bool) → a || b ≡ false → (a ≡ false) × (b ≡ false)
-or-parts true b h = untrue (sym h)
-or-parts false b h = (refl, h)
 
 -- a sound session stands at an operation
 pub sound-step : (s : Session) → malformed s ≡ false → idleWrong (s .code) (drop (s .step) (opsOf (programOf (s .code)))) (s .idle) ≡ false

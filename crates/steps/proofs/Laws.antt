@@ -1,11 +1,11 @@
 -- Facts that the proofs of single functions cite.
 use mathlib.Core.Path.{_≡_, refl, sym, ap}
-use mathlib.Core.Bool.{true, not, cond, _&&_}
+use mathlib.Core.Bool.{not, cond, _&&_}
 use mathlib.Core.List.{List, [], _∷_}
 use Prim.Native.Nat.{ℕ, zero, suc, _+_, _*_, _≤_, _<_}
 use native.Mathlib.Nat.{le-of-suc-le-suc, not-suc-le-zero, mod-eq-of-lt}
 use native.Mathlib.Omega.{arith}
-use borrow.Author.Tests.{leb-true, le-ltb, ne-eqb}
+use borrow.Author.Tests.{le-ltb, ne-eqb}
 use lib.Dec.{eqb, ltb}
 use lib.Bits.{bitAnd, bitOr}
 use lib.ListN.{length, set}
@@ -22,8 +22,8 @@ use Rattle.session.specs.Machine.{contextOf}
 use Rattle.calls.specs.declared.Call.{Call}
 use Rattle.calls.proofs.Steps.{past}
 use Rattle.steps.specs.declared.Next.{Next}
-use Rattle.steps.specs.Steps.{fitsAt, timedNext, settled, verdictOf}
-use Rattle.steps.specs.Ends.{argumentFits}
+use Rattle.steps.specs.Steps.{mostAt, timedNext, settled, verdictOf}
+use Rattle.steps.specs.Ends.{mostFor}
 
 -- a store past the end is none
 pub set-past : {A : Type 0} (l : List A) (i : ℕ) (v : A) → length l ≤ i → l ≡ set l i v
@@ -75,25 +75,25 @@ eight-from k bs b₀ b₁ b₂ b₃ b₄ b₅ b₆ b₇ h₀ h₁ h₂ h₃ h₄
     rw (h₀, h₁, h₂, h₃, h₄, h₅, h₆, h₇, e₁, e₂, e₃, e₄, e₅, e₆, e₇) refl
 
 -- an argument that is written or answered as a byte, compared or written as a word
-pub new-address-fits : (x : Call) (a : ℕ) → x ≡ Call.SetAddress → argumentFits x a ≡ true → a ≤ 255
-unfolding argumentFits
-new-address-fits x a e h = leb-true a 255 (rw e at h)
+pub new-address-fits : (x : Call) (a : ℕ) → x ≡ Call.SetAddress → a ≤ mostFor x → a ≤ 255
+unfolding mostFor
+new-address-fits x a e h = rw e at h
 
-pub address-fits : (x : Call) (a : ℕ) → x ≡ Call.WithAddress → argumentFits x a ≡ true → a ≤ 255
-unfolding argumentFits
-address-fits x a e h = leb-true a 255 (rw e at h)
+pub address-fits : (x : Call) (a : ℕ) → x ≡ Call.WithAddress → a ≤ mostFor x → a ≤ 255
+unfolding mostFor
+address-fits x a e h = rw e at h
 
-pub thresholds-fit : (x : Call) (a : ℕ) → x ≡ Call.SetThresholds → argumentFits x a ≡ true → a ≤ 65535
-unfolding argumentFits
-thresholds-fit x a e h = leb-true a 65535 (rw e at h)
+pub thresholds-fit : (x : Call) (a : ℕ) → x ≡ Call.SetThresholds → a ≤ mostFor x → a ≤ 65535
+unfolding mostFor
+thresholds-fit x a e h = rw e at h
 
-pub address-written : (i : Instruction) (a : ℕ) → i ≡ Instruction.WriteAddress → fitsAt i a ≡ true → a ≤ 255
-unfolding fitsAt
-address-written i a e h = leb-true a 255 (rw e at h)
+pub address-written : (x : Instruction) (a : ℕ) → x ≡ Instruction.WriteAddress → a ≤ mostAt x → a ≤ 255
+unfolding mostAt
+address-written x a e h = rw e at h
 
-pub low-written : (i : Instruction) (a : ℕ) → i ≡ Instruction.WriteLow → fitsAt i a ≡ true → a ≤ 65535
-unfolding fitsAt
-low-written i a e h = leb-true a 65535 (rw e at h)
+pub low-written : (x : Instruction) (a : ℕ) → x ≡ Instruction.WriteLow → a ≤ mostAt x → a ≤ 65535
+unfolding mostAt
+low-written x a e h = rw e at h
 
 pub ruleset fitting = (new-address-fits, address-fits, thresholds-fit, address-written, low-written)
 

@@ -1,7 +1,7 @@
 -- The two ends of a call: what its arguments decide, and how it ends after its last instruction.
-use mathlib.Core.Bool.{Bool, true, _||_}
+use mathlib.Core.Bool.{_||_}
 use Prim.Native.Nat.{ℕ, _+_, _*_}
-use lib.Dec.{ltb, leb}
+use lib.Dec.{ltb}
 use Rattle.session.specs.Instructions.{Final, success, failure, Verdict, onward, stop, test, wrongAddress, declines}
 use Rattle.session.specs.Steps.{tooShort}
 use Rattle.threshold.specs.Threshold.{decodeThreshold}
@@ -12,24 +12,24 @@ abbrev pub endOf : Final → End
 endOf (success v d) = End.Success v d
 endOf (failure e) = End.Failure e
 
--- arguments that a call stores or answers as a byte, or compares as a word
-unfoldable pub argumentFits : Call → ℕ → Bool
-argumentFits Call.Nothing a = true
-argumentFits Call.WithAddress a = leb a 255
-argumentFits Call.WhoAmI a = true
-argumentFits Call.SetAddress a = leb a 255
-argumentFits Call.StartContinuous a = true
-argumentFits Call.StopContinuous a = true
-argumentFits Call.ReadRangeMm a = true
-argumentFits Call.ReadRangeContinuous a = true
-argumentFits Call.ReadRangeSingle a = true
-argumentFits Call.SetBudget a = true
-argumentFits Call.SetThresholds a = leb a 65535
-argumentFits Call.GetThresholds a = true
-argumentFits Call.SetGpioConfig a = true
-argumentFits Call.ClearInterruptStatus a = true
-argumentFits Call.SetSignalRateLimit a = true
-argumentFits Call.GetBudget a = true
+-- the greatest A that a call can store or answer: as a byte, as a word, or any
+unfoldable pub mostFor : Call → ℕ
+mostFor Call.Nothing = 4294967295
+mostFor Call.WithAddress = 255
+mostFor Call.WhoAmI = 4294967295
+mostFor Call.SetAddress = 255
+mostFor Call.StartContinuous = 4294967295
+mostFor Call.StopContinuous = 4294967295
+mostFor Call.ReadRangeMm = 4294967295
+mostFor Call.ReadRangeContinuous = 4294967295
+mostFor Call.ReadRangeSingle = 4294967295
+mostFor Call.SetBudget = 4294967295
+mostFor Call.SetThresholds = 65535
+mostFor Call.GetThresholds = 4294967295
+mostFor Call.SetGpioConfig = 4294967295
+mostFor Call.ClearInterruptStatus = 4294967295
+mostFor Call.SetSignalRateLimit = 4294967295
+mostFor Call.GetBudget = 4294967295
 
 -- call 3's test, and call 9's
 abbrev pub addressEntry : ℕ → Verdict

@@ -1,9 +1,9 @@
 -- What the code needs of an instruction, as plain data: its shape, its transfer, what is kept of its reply, and what a good reply decides.
 -- Each is read off the session's definition of the instruction, `opOf`.
-use mathlib.Core.Bool.{Bool, true, not, cond}
+use mathlib.Core.Bool.{not, cond}
 use mathlib.Core.List.{List}
 use Prim.Native.Nat.{ℕ, _+_, _%_}
-use lib.Dec.{eqb, ltb, leb}
+use lib.Dec.{eqb, ltb}
 use Rattle.session.specs.declared.Instruction.{Instruction}
 use Rattle.session.specs.declared.Session.{Session}
 use Rattle.session.specs.declared.Answer.{Answer}
@@ -49,38 +49,38 @@ contextAt address s =
       carried = s .carried;
     }
 
--- arguments that an instruction writes as a byte, or as a word
-unfoldable pub fitsAt : Instruction → ℕ → Bool
-fitsAt Instruction.Nowhere a = true
-fitsAt (Instruction.Write reg b) a = true
-fitsAt (Instruction.WriteOr reg mask) a = true
-fitsAt (Instruction.WriteAnd reg mask) a = true
-fitsAt (Instruction.Read reg k) a = true
-fitsAt (Instruction.ReadWord reg k) a = true
-fitsAt Instruction.Identify a = true
-fitsAt Instruction.ReadMap a = true
-fitsAt Instruction.WriteMap a = true
-fitsAt Instruction.WriteQuarter a = true
-fitsAt Instruction.WriteRate a = true
-fitsAt Instruction.WriteStop a = true
-fitsAt Instruction.Prepared a = true
-fitsAt Instruction.ReadOscillator a = true
-fitsAt Instruction.WritePeriod a = true
-fitsAt Instruction.WriteMode a = true
-fitsAt Instruction.WriteAddress a = leb a 255
-fitsAt Instruction.WriteLow a = leb a 65535
-fitsAt Instruction.WriteHigh a = true
-fitsAt Instruction.WriteFunction a = true
-fitsAt Instruction.WritePolarity a = true
-fitsAt Instruction.ReadStatus a = true
-fitsAt (Instruction.ReadTiming n k) a = true
-fitsAt (Instruction.ReadLast k) a = true
-fitsAt Instruction.WriteSteps a = true
-fitsAt (Instruction.WriteWord k) a = true
-fitsAt Instruction.AwaitDetector a = true
-fitsAt Instruction.AwaitStatus a = true
-fitsAt Instruction.AwaitStart a = true
-fitsAt Instruction.ReadRange a = true
+-- the greatest A that an instruction can write: as a byte, as a word, or any
+unfoldable pub mostAt : Instruction → ℕ
+mostAt Instruction.Nowhere = 4294967295
+mostAt (Instruction.Write reg b) = 4294967295
+mostAt (Instruction.WriteOr reg mask) = 4294967295
+mostAt (Instruction.WriteAnd reg mask) = 4294967295
+mostAt (Instruction.Read reg k) = 4294967295
+mostAt (Instruction.ReadWord reg k) = 4294967295
+mostAt Instruction.Identify = 4294967295
+mostAt Instruction.ReadMap = 4294967295
+mostAt Instruction.WriteMap = 4294967295
+mostAt Instruction.WriteQuarter = 4294967295
+mostAt Instruction.WriteRate = 4294967295
+mostAt Instruction.WriteStop = 4294967295
+mostAt Instruction.Prepared = 4294967295
+mostAt Instruction.ReadOscillator = 4294967295
+mostAt Instruction.WritePeriod = 4294967295
+mostAt Instruction.WriteMode = 4294967295
+mostAt Instruction.WriteAddress = 255
+mostAt Instruction.WriteLow = 65535
+mostAt Instruction.WriteHigh = 4294967295
+mostAt Instruction.WriteFunction = 4294967295
+mostAt Instruction.WritePolarity = 4294967295
+mostAt Instruction.ReadStatus = 4294967295
+mostAt (Instruction.ReadTiming n k) = 4294967295
+mostAt (Instruction.ReadLast k) = 4294967295
+mostAt Instruction.WriteSteps = 4294967295
+mostAt (Instruction.WriteWord k) = 4294967295
+mostAt Instruction.AwaitDetector = 4294967295
+mostAt Instruction.AwaitStatus = 4294967295
+mostAt Instruction.AwaitStart = 4294967295
+mostAt Instruction.ReadRange = 4294967295
 
 -- what a good reply decides; a read of a wait and the range read go on
 abbrev pub verdictOf : Op → Context → Verdict

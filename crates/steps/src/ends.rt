@@ -1,6 +1,5 @@
 // The two ends of each call.
 ghost use mathlib.Core.Path.{_≡_};
-ghost use mathlib.Core.Bool.{true};
 ghost use Prim.Native.Nat.{_+_, _*_, _≤_};
 ghost use Rattle.calls.specs.Calls.{programFor};
 ghost use Rattle.session.specs.Bus.{withAddress, withBudget};
@@ -9,7 +8,7 @@ ghost use Rattle.session.specs.Machine.{contextOf, heldBy};
 ghost use Rattle.session.specs.Steps.{slotWord};
 ghost use Rattle.threshold.specs.Threshold.{decodeThreshold};
 ghost use Rattle.steps.specs.Steps.{settled};
-ghost use Rattle.steps.specs.Ends.{endOf, argumentFits, addressEntry, budgetEntry, thresholdsOf};
+ghost use Rattle.steps.specs.Ends.{endOf, mostFor, addressEntry, budgetEntry, thresholdsOf};
 use crate::End;
 use crate::Next;
 use crate::values::held;
@@ -86,7 +85,7 @@ fn set_rate_entry(s: Session) -> Next
 
 // What the arguments of a call decide.
 pub fn entry(call: Call, s: Session) -> Next
-    requires { ⌜ argumentFits call (s .a) ≡ true ⌝ }
+    requires { ⌜ s .a ≤ mostFor call ⌝ }
     ensures { λ r. ⌜ r ≡ settled (programFor call .entry (contextOf s)) ⌝ }
 {
     match call {
@@ -203,7 +202,7 @@ fn thresholds_result(s: Session) -> End
 
 // How a call ends after its last instruction.
 pub fn final_of(call: Call, s: Session) -> End
-    requires { ⌜ argumentFits call (s .a) ≡ true ⌝ }
+    requires { ⌜ s .a ≤ mostFor call ⌝ }
     ensures { λ r. ⌜ r ≡ endOf (programFor call .final (contextOf s)) ⌝ }
 {
     match call {

@@ -1,6 +1,6 @@
 // The transfer of each instruction.
 ghost use mathlib.Core.Path.{_≡_};
-ghost use mathlib.Core.Bool.{true, cond};
+ghost use mathlib.Core.Bool.{cond};
 ghost use mathlib.Core.List.{[], _∷_};
 ghost use Prim.Native.Nat.{_≤_};
 ghost use lib.Dec.{eqb};
@@ -10,7 +10,7 @@ ghost use Rattle.threshold.specs.Threshold.{encodeThreshold};
 ghost use Rattle.session.specs.Bus.{transferOf};
 ghost use Rattle.session.specs.Instructions.{sendOf, bytesFrom};
 ghost use Rattle.session.specs.Steps.{opOf, wordBytes, longBytes, timingRegister, timingLength};
-ghost use Rattle.steps.specs.Steps.{contextAt, fitsAt};
+ghost use Rattle.steps.specs.Steps.{contextAt, mostAt};
 use crate::shapes::timing_length;
 use crate::shapes::timing_register;
 use crate::values::and_byte;
@@ -227,7 +227,7 @@ fn write_final_word(address: u8, slot: u8, s: Session) -> Transfer
 
 // The transfer of an instruction, to an address.
 pub fn transfer_to(address: u8, i: Instruction, s: Session) -> Transfer
-    requires { ⌜ fitsAt i (s .a) ≡ true ⌝ }
+    requires { ⌜ s .a ≤ mostAt i ⌝ }
     ensures { λ r. ⌜ r ≡ sendOf (opOf i) (contextAt address s) ⌝ }
 {
     match i {

@@ -1,0 +1,3 @@
+pub mod Places
+pub mod Meets
+pub mod Cases

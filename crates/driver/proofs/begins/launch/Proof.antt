@@ -1,0 +1,28 @@
+-- `driver::begins::launch` meets its contract.
+use mathlib.Core.Path.{_∙_, ap, sym, subst}
+use Prim.Native.Nat.{_≤_}
+use borrow.Author.Needs.{needs}
+use Rattle.calls.specs.declared.Call.{Call}
+use Rattle.steps.specs.Ends.{mostFor}
+use Rattle.driver.specs.Outcome.{outcomeOf}
+use Rattle.driver.proofs.Meets.{launches}
+use Rattle.driver.proofs.Places.{stored-fits}
+use Rattle.driver.proofs.begins.launch.Statement.{statement}
+use Rattle.driver.proofs.begins.launch.Tie as tie
+
+call-of-requires : tie.Need-call-of-requires
+call-of-requires c κs = search needs
+
+entry-requires : tie.Need-entry-requires
+entry-requires c κs = let s = c .before .args .s in
+    subst (λ (x : Call). s .a ≤ mostFor x) (sym (c .call-of .ensures)) (stored-fits (s .code) (s .a) (s .b) (c .before .pre .arguments))
+
+decide-requires : tie.Need-decide-requires
+decide-requires c κs = search needs
+
+returns : tie.Need-returns
+returns c = let s = c .before .before .before .args .s in
+    (rw (c .before .entry .ensures, c .before .before .call-of .ensures) at (c .decide .ensures)) ∙ ap outcomeOf (launches s)
+
+pub launch-spec : {M : Type 1} → statement M
+launch-spec = tie.close (tie.spec call-of-requires entry-requires decide-requires returns)

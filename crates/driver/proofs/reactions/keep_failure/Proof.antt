@@ -1,0 +1,12 @@
+-- `driver::reactions::keep_failure` meets its contract.
+use Rattle.driver.specs.Reactions.{keepFailure}
+use Rattle.clock.proofs.Branches.{branches}
+use Rattle.driver.proofs.reactions.keep_failure.Statement.{statement}
+use Rattle.driver.proofs.reactions.keep_failure.Tie as tie
+
+returns : tie.Need-returns
+unfolding keepFailure
+returns c = search branches
+
+pub keep-failure-spec : {M : Type 1} → statement M
+keep-failure-spec = tie.close (tie.spec returns)

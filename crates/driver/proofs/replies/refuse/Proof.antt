@@ -1,0 +1,16 @@
+-- `driver::replies::refuse` meets its contract.
+use mathlib.Core.Path.{refl}
+use borrow.Author.Needs.{needs}
+use Rattle.driver.specs.Outcome.{outcomeOf}
+use Rattle.driver.proofs.replies.refuse.Statement.{statement}
+use Rattle.driver.proofs.replies.refuse.Tie as tie
+
+no-transfer-requires : tie.Need-no-transfer-requires
+no-transfer-requires c κs = search needs
+
+returns : tie.Need-returns
+unfolding outcomeOf
+returns c = rw (c .no-transfer .ensures) refl
+
+pub refuse-spec : {M : Type 1} → statement M
+refuse-spec = tie.close (tie.spec no-transfer-requires returns)

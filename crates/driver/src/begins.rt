@@ -1,0 +1,106 @@
+// The beginning of a call.
+ghost use mathlib.Core.Path.{_≡_};
+ghost use mathlib.Core.Bool.{true};
+ghost use Rattle.session.specs.Calls.{argumentsOk};
+ghost use Rattle.session.specs.Machine.{illFormed, begun, notUp, beginDef, otherDef};
+ghost use Rattle.driver.specs.Outcome.{outcomeOf};
+ghost use Rattle.driver.specs.Sound.{Sound};
+ghost use Rattle.driver.specs.Reactions.{launching, beginning};
+use crate::Outcome;
+use crate::checks::arguments_ok;
+use crate::checks::ill_formed;
+use crate::checks::negated;
+use crate::reactions::decide;
+use crate::replies::broken;
+use crate::replies::refuse;
+use session::Answer;
+use session::Session;
+
+// What the arguments decide: an answer with no transfer made, or the first transfer.
+fn launch(s: Session) -> Outcome
+    requires { ⌜ Sound s ⌝ }
+    ensures { λ r. ⌜ r ≡ outcomeOf (launching s) ⌝ }
+{
+    decide(steps::entry(calls::call_of(s.code), s), 0, 0, s)
+}
+
+// A bring-up leaves none of the fields.
+fn begun(s: Session, code: u8, a: u32, b: u16) -> Session
+    ensures { λ r. ⌜ r ≡ begun s code a b ⌝ }
+{
+    let was = s.driver;
+    let driver = steps::held(code, was);
+    Session {
+        driver,
+        code,
+        a,
+        b,
+        step: 0,
+        idle: 0,
+        transfers: 0,
+        failed: 0,
+        own: 0,
+        carried: [0; 24],
+    }
+}
+
+fn not_up(code: u8, up: bool) -> bool
+    ensures { λ r. ⌜ r ≡ notUp code up ⌝ }
+{
+    if code == 1 { false } else { negated(up) }
+}
+
+fn begin_up(absent: bool, s: Session, code: u8, a: u32, b: u16) -> Outcome
+    requires { ⌜ argumentsOk code a b ≡ true ⌝ }
+    ensures { λ r. ⌜ r ≡ outcomeOf (beginning absent s code a b) ⌝ }
+{
+    if absent {
+        refuse(Answer::NotUp, s)
+    } else {
+        launch(begun(s, code, a, b))
+    }
+}
+
+fn begin_if(ill: bool, ok: bool, s: Session, code: u8, a: u32, b: u16) -> Outcome
+    requires { ⌜ ill ≡ illFormed s ⌝ }
+    requires { ⌜ ok ≡ argumentsOk code a b ⌝ }
+    ensures { λ r. ⌜ r ≡ outcomeOf (beginDef s code a b) ⌝ }
+{
+    if ill {
+        broken(s)
+    } else if ok {
+        if s.code == 0 {
+            let driver = s.driver;
+            begin_up(not_up(code, driver.up), s, code, a, b)
+        } else {
+            refuse(Answer::CallWaits, s)
+        }
+    } else {
+        refuse(Answer::IllFormedRecord, s)
+    }
+}
+
+// A call, by its code and arguments.
+pub fn begin(s: Session, code: u8, a: u32, b: u16) -> Outcome
+    ensures { λ r. ⌜ r ≡ outcomeOf (beginDef s code a b) ⌝ }
+{
+    begin_if(ill_formed(s), arguments_ok(code, a, b), s, code, a, b)
+}
+
+fn refuse_if(ill: bool, s: Session) -> Outcome
+    requires { ⌜ ill ≡ illFormed s ⌝ }
+    ensures { λ r. ⌜ r ≡ outcomeOf (otherDef s) ⌝ }
+{
+    if ill {
+        broken(s)
+    } else {
+        refuse(Answer::IllFormedRecord, s)
+    }
+}
+
+// A record that is neither a call nor a reply.
+pub fn refuse_record(s: Session) -> Outcome
+    ensures { λ r. ⌜ r ≡ outcomeOf (otherDef s) ⌝ }
+{
+    refuse_if(ill_formed(s), s)
+}
