@@ -1,0 +1,49 @@
+// One record meets one session.
+ghost use mathlib.Core.Path.{_≡_};
+ghost use Prim.Native.Nat.{_+_, _*_};
+ghost use Rattle.session.specs.Records.{stepDef};
+ghost use Rattle.driver.specs.Outcome.{outcomeOf};
+ghost use Rattle.records.specs.Records.{recordIn};
+use driver::Outcome;
+use session::Session;
+
+fn word(high: u8, low: u8) -> u16
+    ensures { λ r. ⌜ r ≡ high * 256 + low ⌝ }
+{
+    high as u16 * 256 + low as u16
+}
+
+fn long(a: u8, b: u8, c: u8, d: u8) -> u32
+    ensures { λ r. ⌜ r ≡ a * 16777216 + b * 65536 + c * 256 + d ⌝ }
+{
+    a as u32 * 16777216 + b as u32 * 65536 + c as u32 * 256 + d as u32
+}
+
+// A call is 01, its code, A and B; a reply is 02, its failure code and six data bytes.
+pub fn step(s: Session, record: [u8; 8]) -> Outcome
+    ensures { λ r. ⌜ r ≡ outcomeOf (stepDef s (recordIn «record»)) ⌝ }
+{
+    if record[0] == 1 {
+        driver::begin(
+            s,
+            record[1],
+            long(record[2], record[3], record[4], record[5]),
+            word(record[6], record[7]),
+        )
+    } else if record[0] == 2 {
+        driver::reply(
+            s,
+            record[1],
+            [
+                record[2],
+                record[3],
+                record[4],
+                record[5],
+                record[6],
+                record[7],
+            ],
+        )
+    } else {
+        driver::refuse_record(s)
+    }
+}
