@@ -194,6 +194,7 @@ fn run_whole(ill: bool, s: Session, bytes: &[u8]) -> ListRun
 // The run of a list of records from any session.
 pub fn run(s: Session, bytes: &[u8]) -> ListRun
     ensures { λ r. ⌜ r ≡ listRunOf (runDef s (now (bytes .entry))) ⌝ }
+    ensures { λ r. ⌜ now (bytes .exit) ≡ now (bytes .entry) ⌝ }
 {
     if bytes.len() % 8 == 0 {
         run_whole(driver::ill_formed(s), s, bytes)
@@ -205,6 +206,7 @@ pub fn run(s: Session, bytes: &[u8]) -> ListRun
 // The run of a list from a fresh session: demand 3 holds of it.
 pub fn run_fresh(bytes: &[u8]) -> ListRun
     ensures { λ r. ⌜ RunsFresh (now (bytes .entry)) r ⌝ }
+    ensures { λ r. ⌜ now (bytes .exit) ≡ now (bytes .entry) ⌝ }
 {
     run(driver::fresh(), bytes)
 }

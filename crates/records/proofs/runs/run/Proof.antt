@@ -1,5 +1,5 @@
 -- `records::runs::run` meets its contract.
-use mathlib.Core.Path.{_∙_}
+use mathlib.Core.Path.{refl, _∙_}
 use borrow.Author.Needs.{needs}
 use Rattle.records.specs.Runs.{listRunOf}
 use Rattle.records.proofs.Meets.{runs-spare}
@@ -20,7 +20,7 @@ unfolding listRunOf
 returns c = search needs
 
 returns-2 : tie.Need-returns-2
-returns-2 c = c .stopped .ensures ∙ runs-spare (c .before .before .before .args .s) (c .before .before .before .args .bytes .now) (c .before .if1 .left)
+returns-2 c = (c .stopped .ensures ∙ runs-spare (c .before .before .before .args .s) (c .before .before .before .args .bytes .now) (c .before .if1 .left), refl)
 
 pub run-spec : {M : Type 1} → statement M
 run-spec =
