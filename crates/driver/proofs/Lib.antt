@@ -1,3 +1,1 @@
-pub mod Places
 pub mod Meets
-pub mod Cases

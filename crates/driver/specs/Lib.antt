@@ -1,3 +1,1 @@
-pub mod Outcome
-pub mod Sound
-pub mod Reactions
+pub mod Replies

@@ -2,7 +2,7 @@
 use mathlib.Core.Path.{_≡_, sym, _∙_, ap}
 use mathlib.Core.Bool.{Bool}
 use Prim.Native.Nat.{ℕ}
-use Rattle.driver.specs.declared.Given.{Given}
+use Rattle.reactions.specs.declared.Given.{Given}
 use Rattle.records.specs.declared.Counts.{Counts}
 use Rattle.records.specs.Runs.{addedTo, isIllFormed}
 

@@ -8,7 +8,7 @@ use borrow.Author.Tests.{eqb-true}
 use lib.Dec.{eqb}
 use Rattle.session.specs.Records.{Record, recordOf}
 use Rattle.session.specs.History.{Got, transfer, answer, refusal, Entry, isAccepted, isAcceptedCall, isAcceptedReply, countsOf as historyCounts}
-use Rattle.driver.specs.declared.Given.{Given}
+use Rattle.reactions.specs.declared.Given.{Given}
 use Rattle.records.specs.declared.Counts.{Counts}
 use Rattle.records.specs.Runs.{countsOf, oneIf, addedTo}
 

@@ -11,7 +11,7 @@ use Rattle.session.specs.Machine.{Outcome as Result, sent, answered, refused, b
 use Rattle.session.specs.Records.{recordOf, recordsOf, stepDef}
 use Rattle.session.specs.History.{transfer, answer, refusal, Entry, stopped, taking, runFrom, runRecords, runDef}
 use Rattle.session.proofs.Demand3.{demand-3}
-use Rattle.driver.specs.Outcome.{outcomeOf}
+use Rattle.reactions.specs.Outcome.{outcomeOf}
 use Rattle.records.specs.declared.Counts.{Counts}
 use Rattle.records.specs.declared.ListRun.{ListRun}
 use Rattle.records.specs.declared.runs.Progress.{Progress}

@@ -8,8 +8,8 @@ use native.Mathlib.Numerals.{towards-suc}
 use lib.Dec.{eqb}
 use lib.ListN.{length, drop, drop-of-length-le}
 use lib.Seq.{drop-cons}
-use Rattle.driver.specs.declared.Given.{Given}
-use Rattle.driver.specs.Outcome.{outcomeOf}
+use Rattle.reactions.specs.declared.Given.{Given}
+use Rattle.reactions.specs.Outcome.{outcomeOf}
 use Rattle.session.specs.Bus.{byte}
 use Rattle.session.specs.Records.{stepDef}
 use Rattle.records.specs.declared.Counts.{Counts}

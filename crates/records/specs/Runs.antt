@@ -10,9 +10,9 @@ use Rattle.session.specs.Bus.{byte}
 use Rattle.session.specs.Records.{stepDef}
 use Rattle.session.specs.History.{Counts as CountsOf, Run}
 use Rattle.session.specs.Claim3.{Demand3}
-use Rattle.driver.specs.declared.Given.{Given}
-use Rattle.driver.specs.declared.Outcome.{Outcome}
-use Rattle.driver.specs.Outcome.{outcomeOf}
+use Rattle.reactions.specs.declared.Given.{Given}
+use Rattle.reactions.specs.declared.Outcome.{Outcome}
+use Rattle.reactions.specs.Outcome.{outcomeOf}
 use Rattle.records.specs.declared.Counts.{Counts}
 use Rattle.records.specs.declared.ListRun.{ListRun}
 use Rattle.records.specs.declared.runs.Progress.{Progress}

@@ -2,9 +2,9 @@
 ghost use mathlib.Core.Path.{_≡_};
 ghost use Prim.Native.Nat.{_+_, _*_};
 ghost use Rattle.session.specs.Records.{stepDef};
-ghost use Rattle.driver.specs.Outcome.{outcomeOf};
+ghost use Rattle.reactions.specs.Outcome.{outcomeOf};
 ghost use Rattle.records.specs.Records.{recordIn};
-use driver::Outcome;
+use reactions::Outcome;
 use session::Session;
 
 fn word(high: u8, low: u8) -> u16

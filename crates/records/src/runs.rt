@@ -9,8 +9,8 @@ ghost use Rattle.records.specs.Runs.{Room, oneIf, addedTo, isIllFormed, 
 use crate::Counts;
 use crate::ListRun;
 use crate::one::step;
-use driver::Given;
-use driver::Outcome;
+use reactions::Given;
+use reactions::Outcome;
 use session::Answer;
 use session::Session;
 
@@ -197,7 +197,7 @@ pub fn run(s: Session, bytes: &[u8]) -> ListRun
     ensures { λ r. ⌜ now (bytes .exit) ≡ now (bytes .entry) ⌝ }
 {
     if bytes.len() % 8 == 0 {
-        run_whole(driver::ill_formed(s), s, bytes)
+        run_whole(checks::ill_formed(s), s, bytes)
     } else {
         stopped(Answer::SpareBytes, s)
     }

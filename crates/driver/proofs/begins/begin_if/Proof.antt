@@ -1,7 +1,7 @@
 -- `driver::begins::begin_if` meets its contract.
 use mathlib.Core.Path.{_∙_, ap, sym}
 use borrow.Author.Needs.{needs}
-use Rattle.driver.specs.Outcome.{outcomeOf}
+use Rattle.reactions.specs.Outcome.{outcomeOf}
 use Rattle.driver.proofs.Meets.{begin-broken, begin-13, begin-10, begin-on}
 use Rattle.driver.proofs.begins.begin_if.Statement.{statement}
 use Rattle.driver.proofs.begins.begin_if.Tie as tie

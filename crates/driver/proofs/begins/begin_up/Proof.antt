@@ -2,8 +2,8 @@
 use mathlib.Core.Path.{_∙_, ap, refl}
 use borrow.Author.Needs.{needs}
 use Rattle.clock.proofs.Branches.{then, other}
-use Rattle.driver.specs.Outcome.{outcomeOf}
-use Rattle.driver.specs.Reactions.{beginning}
+use Rattle.reactions.specs.Outcome.{outcomeOf}
+use Rattle.driver.specs.Replies.{beginning}
 use Rattle.driver.proofs.Meets.{sound-begun}
 use Rattle.driver.proofs.begins.begin_up.Statement.{statement}
 use Rattle.driver.proofs.begins.begin_up.Tie as tie

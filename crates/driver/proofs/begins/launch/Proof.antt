@@ -4,9 +4,9 @@ use Prim.Native.Nat.{_≤_}
 use borrow.Author.Needs.{needs}
 use Rattle.calls.specs.declared.Call.{Call}
 use Rattle.steps.specs.Ends.{mostFor}
-use Rattle.driver.specs.Outcome.{outcomeOf}
+use Rattle.reactions.specs.Outcome.{outcomeOf}
 use Rattle.driver.proofs.Meets.{launches}
-use Rattle.driver.proofs.Places.{stored-fits}
+use Rattle.checks.proofs.Places.{stored-fits}
 use Rattle.driver.proofs.begins.launch.Statement.{statement}
 use Rattle.driver.proofs.begins.launch.Tie as tie
 

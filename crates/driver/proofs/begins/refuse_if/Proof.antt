@@ -1,7 +1,7 @@
 -- `driver::begins::refuse_if` meets its contract.
 use mathlib.Core.Path.{_∙_, ap, sym}
 use borrow.Author.Needs.{needs}
-use Rattle.driver.specs.Outcome.{outcomeOf}
+use Rattle.reactions.specs.Outcome.{outcomeOf}
 use Rattle.driver.proofs.Meets.{other-broken, other-13}
 use Rattle.driver.proofs.begins.refuse_if.Statement.{statement}
 use Rattle.driver.proofs.begins.refuse_if.Tie as tie

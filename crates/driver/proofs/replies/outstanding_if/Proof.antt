@@ -5,9 +5,9 @@ use borrow.Author.Needs.{needs}
 use Rattle.clock.proofs.Branches.{branches}
 use Rattle.session.specs.declared.Instruction.{Instruction}
 use Rattle.steps.specs.Steps.{mostAt}
-use Rattle.driver.specs.Outcome.{outstandingOf}
+use Rattle.driver.specs.Replies.{outstandingOf}
 use Rattle.driver.proofs.Meets.{waiting-sound, out-ill, out-sent}
-use Rattle.driver.proofs.Places.{written-fits, arguments-sound, well-formed}
+use Rattle.checks.proofs.Places.{written-fits, arguments-sound, well-formed}
 use Rattle.driver.proofs.replies.outstanding_if.Statement.{statement}
 use Rattle.driver.proofs.replies.outstanding_if.Tie as tie
 

@@ -1,7 +1,7 @@
 -- `driver::replies::refuse` meets its contract.
 use mathlib.Core.Path.{refl}
 use borrow.Author.Needs.{needs}
-use Rattle.driver.specs.Outcome.{outcomeOf}
+use Rattle.reactions.specs.Outcome.{outcomeOf}
 use Rattle.driver.proofs.replies.refuse.Statement.{statement}
 use Rattle.driver.proofs.replies.refuse.Tie as tie
 

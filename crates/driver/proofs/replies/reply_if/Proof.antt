@@ -1,7 +1,7 @@
 -- `driver::replies::reply_if` meets its contract.
 use mathlib.Core.Path.{_∙_, ap, sym}
 use borrow.Author.Needs.{needs}
-use Rattle.driver.specs.Outcome.{outcomeOf}
+use Rattle.reactions.specs.Outcome.{outcomeOf}
 use Rattle.driver.proofs.Meets.{reply-broken, reply-11, reply-on, waiting-sound}
 use Rattle.driver.proofs.replies.reply_if.Statement.{statement}
 use Rattle.driver.proofs.replies.reply_if.Tie as tie

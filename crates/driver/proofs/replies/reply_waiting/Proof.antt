@@ -4,9 +4,9 @@ use Prim.Native.Nat.{_≤_}
 use borrow.Author.Needs.{needs}
 use Rattle.session.specs.declared.Instruction.{Instruction}
 use Rattle.steps.specs.Steps.{mostAt}
-use Rattle.driver.specs.Outcome.{outcomeOf}
+use Rattle.reactions.specs.Outcome.{outcomeOf}
 use Rattle.driver.proofs.Meets.{takes}
-use Rattle.driver.proofs.Places.{written-fits, arguments-sound, well-formed}
+use Rattle.checks.proofs.Places.{written-fits, arguments-sound, well-formed}
 use Rattle.driver.proofs.replies.reply_waiting.Statement.{statement}
 use Rattle.driver.proofs.replies.reply_waiting.Tie as tie
 

@@ -2,8 +2,8 @@
 use mathlib.Core.Path.{_∙_, ap, refl}
 use borrow.Author.Needs.{needs}
 use Rattle.clock.proofs.Branches.{then, other}
-use Rattle.driver.specs.Outcome.{outcomeOf}
-use Rattle.driver.specs.Reactions.{taking}
+use Rattle.reactions.specs.Outcome.{outcomeOf}
+use Rattle.driver.specs.Replies.{taking}
 use Rattle.driver.proofs.replies.take.Statement.{statement}
 use Rattle.driver.proofs.replies.take.Tie as tie
 

@@ -1,7 +1,7 @@
 -- `records::one::step` meets its contract.
 use mathlib.Core.Path.{_∙_, ap}
 use borrow.Author.Needs.{needs}
-use Rattle.driver.specs.Outcome.{outcomeOf}
+use Rattle.reactions.specs.Outcome.{outcomeOf}
 use Rattle.records.proofs.ByKind.{step-call, step-reply, step-other}
 use Rattle.records.proofs.one.step.Statement.{statement}
 use Rattle.records.proofs.one.step.Tie as tie

@@ -3,7 +3,7 @@ use mathlib.Core.Path.{sym, refl, subst}
 use Prim.Native.Nat.{ℕ, _≤_}
 use native.Mathlib.Omega.{arith}
 use borrow.Author.Needs.{needs}
-use Rattle.driver.specs.declared.Given.{Given}
+use Rattle.reactions.specs.declared.Given.{Given}
 use Rattle.records.specs.Runs.{addedTo}
 use Rattle.records.proofs.Cases.{case-added, cases}
 use Rattle.records.proofs.Turns.{at-most-one}

@@ -1,0 +1,42 @@
+-- Calls and replies, over the plain data of the session's instruction. That they are the machine's is proved.
+use mathlib.Core.Bool.{Bool, cond}
+use mathlib.Core.List.{List}
+use Prim.Native.Nat.{ℕ, _≤_}
+use lib.ListN.{drop}
+use mathlib.Core.Path.{_≡_}
+use Rattle.session.specs.declared.Transfer.{Transfer}
+use Rattle.session.specs.Claim1.{outstanding as firstSent}
+use Rattle.reactions.specs.Outcome.{noTransfer}
+use Rattle.session.specs.declared.Session.{Session}
+use Rattle.session.specs.declared.Answer.{Answer}
+use Rattle.session.specs.declared.Instruction.{Instruction}
+use Rattle.session.specs.Calls.{opsOf, programOf}
+use Rattle.session.specs.Machine.{Outcome as Result, waitsNow, malformed, refused, toReply, react, onOps, begun, contextOf, decide}
+use Rattle.session.specs.Steps.{opOf}
+use Rattle.steps.specs.declared.Shape.{Shape}
+use Rattle.steps.specs.Steps.{shapeOf, mostAt}
+use Rattle.checks.specs.Sound.{Sound}
+
+-- what the code knows where a reply is taken
+pub record Taken (i : Instruction) (x : Shape) (s : Session) : Type 0 where
+  pub sound : Sound s
+  pub fits : s .a ≤ mostAt i
+  pub shape : x ≡ shapeOf (opOf i)
+
+unfoldable pub taking : Bool → Instruction → Session → ℕ → List ℕ → Result
+taking strays i s f bs = cond strays (refused Answer.StrayByte s) (react (opOf i) (programOf (s .code)) s (toReply f bs))
+
+-- a reply to a session that waits
+unfoldable pub replying : Session → ℕ → List ℕ → Result
+replying s f bs = onOps (drop (s .step) (opsOf (programOf (s .code)))) (programOf (s .code)) s f bs
+
+-- a call that is not refused
+unfoldable pub launching : Session → Result
+launching s = decide (programOf (s .code) .entry (contextOf s)) (programOf (s .code)) 0 0 s
+
+unfoldable pub beginning : Bool → Session → ℕ → ℕ → ℕ → Result
+beginning absent s code a b = cond absent (refused Answer.NotUp s) (launching (begun s code a b))
+
+-- the transfer that a waiting session has out; none where no call waits or the session is ill-formed
+unfoldable pub outstandingOf : Session → Transfer
+outstandingOf s = cond (waitsNow s) (cond (malformed s) noTransfer (firstSent s)) noTransfer
