@@ -86,7 +86,7 @@ module _ (s : Session) (code a b : ℕ) where
   unfolding beginDef
   begin-10 h o n = sym (rw (h, o, waits s n) refl)
 
-  pub begin-on : illFormed s ≡ false → argumentsOk code a b ≡ true → s .code ≡ 0 → beginning (notUp code (s .driver .up)) s code a b ≡ beginDef s code a b
+  pub begin-on : illFormed s ≡ false → argumentsOk code a b ≡ true → s .code ≡ 0 → beginning (notUp code (s .driver .up)) s (begun s code a b) ≡ beginDef s code a b
   unfolding beginDef beginning launching
   begin-on h o e = sym (rw (h, o, e) refl)
 

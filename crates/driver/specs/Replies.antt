@@ -11,7 +11,7 @@ use Rattle.session.specs.declared.Session.{Session}
 use Rattle.session.specs.declared.Answer.{Answer}
 use Rattle.session.specs.declared.Instruction.{Instruction}
 use Rattle.session.specs.Calls.{opsOf, programOf}
-use Rattle.session.specs.Machine.{Outcome as Result, waitsNow, malformed, refused, toReply, react, onOps, begun, contextOf, decide}
+use Rattle.session.specs.Machine.{Outcome as Result, waitsNow, malformed, refused, toReply, react, onOps, contextOf, decide}
 use Rattle.session.specs.Steps.{opOf}
 use Rattle.steps.specs.declared.Shape.{Shape}
 use Rattle.steps.specs.Steps.{shapeOf, mostAt}
@@ -34,8 +34,8 @@ replying s f bs = onOps (drop (s .step) (opsOf (programOf (s .code)))) (programO
 unfoldable pub launching : Session → Result
 launching s = decide (programOf (s .code) .entry (contextOf s)) (programOf (s .code)) 0 0 s
 
-unfoldable pub beginning : Bool → Session → ℕ → ℕ → ℕ → Result
-beginning absent s code a b = cond absent (refused Answer.NotUp s) (launching (begun s code a b))
+unfoldable pub beginning : Bool → Session → Session → Result
+beginning absent s started = cond absent (refused Answer.NotUp s) (launching started)
 
 -- the transfer that a waiting session has out; none where no call waits or the session is ill-formed
 unfoldable pub outstandingOf : Session → Transfer

@@ -1,6 +1,5 @@
 // The beginning of a call.
 ghost use mathlib.Core.Path.{_≡_};
-ghost use mathlib.Core.Bool.{true};
 ghost use Rattle.session.specs.Calls.{argumentsOk};
 ghost use Rattle.session.specs.Machine.{illFormed, begun, notUp, beginDef, otherDef};
 ghost use Rattle.reactions.specs.Outcome.{outcomeOf};
@@ -50,14 +49,14 @@ fn not_up(code: u8, up: bool) -> bool
     if code == 1 { false } else { negated(up) }
 }
 
-fn begin_up(absent: bool, s: Session, code: u8, a: u32, b: u16) -> Outcome
-    requires { ⌜ argumentsOk code a b ≡ true ⌝ }
-    ensures { λ r. ⌜ r ≡ outcomeOf (beginning absent s code a b) ⌝ }
+fn begin_up(absent: bool, s: Session, started: Session) -> Outcome
+    requires { ⌜ Sound started ⌝ }
+    ensures { λ r. ⌜ r ≡ outcomeOf (beginning absent s started) ⌝ }
 {
     if absent {
         refuse(Answer::NotUp, s)
     } else {
-        launch(begun(s, code, a, b))
+        launch(started)
     }
 }
 
@@ -71,7 +70,7 @@ fn begin_if(ill: bool, ok: bool, s: Session, code: u8, a: u32, b: u16) -> Outcom
     } else if ok {
         if s.code == 0 {
             let driver = s.driver;
-            begin_up(not_up(code, driver.up), s, code, a, b)
+            begin_up(not_up(code, driver.up), s, begun(s, code, a, b))
         } else {
             refuse(Answer::CallWaits, s)
         }

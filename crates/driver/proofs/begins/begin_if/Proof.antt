@@ -2,7 +2,7 @@
 use mathlib.Core.Path.{_∙_, ap, sym}
 use borrow.Author.Needs.{needs}
 use Rattle.reactions.specs.Outcome.{outcomeOf}
-use Rattle.driver.proofs.Meets.{begin-broken, begin-13, begin-10, begin-on}
+use Rattle.driver.proofs.Meets.{begin-broken, begin-13, begin-10, begin-on, sound-begun}
 use Rattle.driver.proofs.begins.begin_if.Statement.{statement}
 use Rattle.driver.proofs.begins.begin_if.Tie as tie
 
@@ -12,8 +12,12 @@ broken-requires c κs = search needs
 not-up-requires : tie.Need-not-up-requires
 not-up-requires c κs = search needs
 
+begun-requires : tie.Need-begun-requires
+begun-requires c κs = search needs
+
 begin-up-requires : tie.Need-begin-up-requires
-begin-up-requires c κs = sym (c .before .before .before .before .before .before .pre .1) ∙ c .before .before .before .before .if2 .taken
+begin-up-requires c κs = let a = c .before .before .before .before .before .before .before .args in
+    sound-begun (a .s) (a .code) (a .a) (a .b) _ (sym (c .before .before .before .before .before .before .before .pre .1) ∙ c .before .before .before .before .before .if2 .taken) (c .begun .ensures)
 
 refuse-requires : tie.Need-refuse-requires
 refuse-requires c κs = search needs
@@ -26,8 +30,8 @@ returns c = let a = c .before .before .args in
     c .broken .ensures ∙ ap outcomeOf (begin-broken (a .s) (a .code) (a .a) (a .b) (sym (c .before .before .pre .0) ∙ c .before .if1 .taken))
 
 returns-2 : tie.Need-returns-2
-returns-2 c = let a = c .before .before .before .before .before .before .before .args in
-    (rw (c .before .not-up .ensures) at (c .begin-up .ensures)) ∙ ap outcomeOf (begin-on (a .s) (a .code) (a .a) (a .b) (sym (c .before .before .before .before .before .before .before .pre .0) ∙ c .before .before .before .before .before .before .if1 .left) (sym (c .before .before .before .before .before .before .before .pre .1) ∙ c .before .before .before .before .before .if2 .taken) (search needs))
+returns-2 c = let a = c .before .before .before .before .before .before .before .before .args in
+    (rw (c .before .before .not-up .ensures, c .before .begun .ensures) at (c .begin-up .ensures)) ∙ ap outcomeOf (begin-on (a .s) (a .code) (a .a) (a .b) (sym (c .before .before .before .before .before .before .before .before .pre .0) ∙ c .before .before .before .before .before .before .before .if1 .left) (sym (c .before .before .before .before .before .before .before .before .pre .1) ∙ c .before .before .before .before .before .before .if2 .taken) (search needs))
 
 returns-3 : tie.Need-returns-3
 returns-3 c = let a = c .before .before .before .before .before .args in
@@ -43,6 +47,7 @@ begin-if-spec =
     (tie.spec
     broken-requires
     not-up-requires
+    begun-requires
     begin-up-requires
     refuse-requires
     refuse-requires-2

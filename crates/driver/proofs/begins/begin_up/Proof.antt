@@ -4,19 +4,14 @@ use borrow.Author.Needs.{needs}
 use Rattle.clock.proofs.Branches.{then, other}
 use Rattle.reactions.specs.Outcome.{outcomeOf}
 use Rattle.driver.specs.Replies.{beginning}
-use Rattle.driver.proofs.Meets.{sound-begun}
 use Rattle.driver.proofs.begins.begin_up.Statement.{statement}
 use Rattle.driver.proofs.begins.begin_up.Tie as tie
 
 refuse-requires : tie.Need-refuse-requires
 refuse-requires c κs = search needs
 
-begun-requires : tie.Need-begun-requires
-begun-requires c κs = search needs
-
 launch-requires : tie.Need-launch-requires
-launch-requires c κs = let a = c .before .before .args in
-    sound-begun (a .s) (a .code) (a .a) (a .b) _ (c .before .before .pre) (c .begun .ensures)
+launch-requires c κs = search needs
 
 returns : tie.Need-returns
 unfolding beginning
@@ -24,8 +19,7 @@ returns c = c .refuse .ensures ∙ ap outcomeOf (then _ (c .before .if1 .taken) 
 
 returns-2 : tie.Need-returns-2
 unfolding beginning
-returns-2 c = (rw (c .before .begun .ensures) at (c .launch .ensures)) ∙ ap outcomeOf (other _ (c .before .before .if1 .left) refl)
+returns-2 c = c .launch .ensures ∙ ap outcomeOf (other _ (c .before .if1 .left) refl)
 
 pub begin-up-spec : {M : Type 1} → statement M
-begin-up-spec =
-    tie.close (tie.spec refuse-requires begun-requires launch-requires returns returns-2)
+begin-up-spec = tie.close (tie.spec refuse-requires launch-requires returns returns-2)
