@@ -1,6 +1,7 @@
 //! Traces as lists of numbers in antt.
 
-use crate::traces::{Line, Record, Trace};
+use crate::call::Record;
+use crate::traces::{Line, Trace};
 use std::fmt::Write;
 use std::path::Path;
 use vl53l0x::inner::Fields;

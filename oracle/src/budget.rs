@@ -2,7 +2,8 @@
 
 use crate::budget_cases::{cases, Case};
 use crate::bus::{Bus, Transfer, ADDRESS, FRESH};
-use crate::list::{hex, Kind, List};
+use crate::bytes::hex;
+use crate::list::{Kind, List};
 use crate::place::{run, text, Panic};
 use std::ops::Range;
 use vl53l0x::inner::{driver, fields, get_measurement_timing_budget};
@@ -11,7 +12,7 @@ use vl53l0x::inner::{driver, fields, get_measurement_timing_budget};
 pub type Replies = [u8; 8];
 
 /// The registers read, in order, and the bytes of each reply.
-const READS: [(u8, Range<usize>); 6] =
+pub const READS: [(u8, Range<usize>); 6] =
     [(0x01, 0..1), (0x51, 1..3), (0x71, 3..5), (0x50, 5..6), (0x46, 6..7), (0x70, 7..8)];
 
 /// Below this a budget is refused before any transfer.

@@ -1,6 +1,7 @@
 //! The cases of the timing budget: both sides of every edge, found on the Rust itself, and pseudo-random ones.
 
 use crate::budget::{get, set, Replies, Set, LEAST};
+use crate::bytes::with;
 use crate::clock::{most_microseconds, most_microseconds_within};
 use crate::numbers::{last_that, Numbers};
 use crate::place::run;
@@ -11,7 +12,7 @@ pub struct Case {
     pub budget: u32,
 }
 
-fn replies(sequence: u8, pre_range: u16, final_range: u16, pre_period: u8, msrc: u8, final_period: u8) -> Replies {
+pub fn replies(sequence: u8, pre_range: u16, final_range: u16, pre_period: u8, msrc: u8, final_period: u8) -> Replies {
     let ([a, b], [c, d]) = (pre_range.to_be_bytes(), final_range.to_be_bytes());
     [sequence, a, b, c, d, pre_period, msrc, final_period]
 }
@@ -20,13 +21,20 @@ fn replies(sequence: u8, pre_range: u16, final_range: u16, pre_period: u8, msrc:
 const PRE_RANGE: u8 = 0x40;
 
 /// The bench replies of 01.
-const BENCH: Replies = [0xE8, 0x00, 0x96, 0x01, 0xFE, 0x06, 0x25, 0x04];
+pub const BENCH: Replies = [0xE8, 0x00, 0x96, 0x01, 0xFE, 0x06, 0x25, 0x04];
 const BENCH_BUDGET: u32 = 33_000;
 
 pub fn cases() -> Vec<Case> {
+    let mut numbers = Numbers::new(5);
+    let random = (0..3000).map(|_| random_case(&mut numbers));
+    edges().into_iter().chain(random).collect()
+}
+
+/// Both sides of every edge.
+pub fn edges() -> Vec<Case> {
     let mut cases = Vec::new();
     let mut add = |replies, budget| cases.push(Case { replies, budget });
-    for replies in single_changes().into_iter().chain(several_bad()).chain(place_6_edges()) {
+    for replies in changes().into_iter().chain(place_6_edges()) {
         add(replies, BENCH_BUDGET);
     }
     for sequence in 0..=255 {
@@ -42,18 +50,17 @@ pub fn cases() -> Vec<Case> {
     let wide = replies(0xC0, 0x0FFF, 0x0FFF, 0, 0, 0);
     add(wide, 503_268); // place 9: 32767 clocks and pre's 32769
     add(wide, 753_890); // no place: 65631 clocks, cut to 95
-    let mut numbers = Numbers::new(5);
-    for _ in 0..3000 {
-        let replies = random_replies(&mut numbers);
-        add(replies, random_budget(&mut numbers, replies));
-    }
     cases
 }
 
-fn with(replies: Replies, index: usize, byte: u8) -> Replies {
-    let mut changed = replies;
-    changed[index] = byte;
-    changed
+pub fn random_case(numbers: &mut Numbers) -> Case {
+    let replies = random_replies(numbers);
+    Case { replies, budget: random_budget(numbers, replies) }
+}
+
+/// The bench replies with one or several of them at or beyond an edge.
+pub fn changes() -> Vec<Replies> {
+    single_changes().into_iter().chain(several_bad()).collect()
 }
 
 /// The bench replies with one reply at or beyond an edge, with pre-range on and off.
@@ -194,10 +201,19 @@ fn random_replies(numbers: &mut Numbers) -> Replies {
     replies(sequence, pre_range, final_range, pre_period, msrc, final_period)
 }
 
+/// The least budget that is not refused and leaves time for the final range.
+pub fn least_with_time(replies: Replies) -> u32 {
+    let no_time = |budget| set(replies, budget) == Set::NoTime;
+    if no_time(LEAST) {
+        last_that(LEAST, u32::MAX, no_time) + 1
+    } else {
+        LEAST
+    }
+}
+
 /// Near the time in use, some way above it, or anything.
 fn random_budget(numbers: &mut Numbers, replies: Replies) -> u32 {
-    let no_time = |budget| set(replies, budget) == Set::NoTime;
-    let used = if no_time(LEAST) { last_that(LEAST, u32::MAX, no_time) + 1 } else { LEAST };
+    let used = least_with_time(replies);
     match numbers.below(8) {
         0 => (used - 2).max(LEAST) + numbers.below(5),
         1 => numbers.spread(32).max(LEAST),

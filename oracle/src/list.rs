@@ -105,8 +105,3 @@ pub fn write(lists: &[List], folder: &Path) -> std::io::Result<()> {
     std::fs::write(folder.join("stdin"), stdin)?;
     std::fs::write(folder.join("stdout"), stdout)
 }
-
-/// Bytes as upper-case hexadecimal digits run together.
-pub fn hex(bytes: &[u8]) -> String {
-    bytes.iter().map(|byte| format!("{byte:02X}")).collect()
-}

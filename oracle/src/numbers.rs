@@ -2,9 +2,10 @@
 
 use std::sync::OnceLock;
 
-/// 0 for the fixed lists; any other number makes other pseudo-random cases.
+/// Makes other pseudo-random cases; none for the fixed lists and the fixed stream.
 pub static SEED: OnceLock<u64> = OnceLock::new();
 
+#[derive(Clone)]
 pub struct Numbers(u64);
 
 impl Numbers {
@@ -22,6 +23,11 @@ impl Numbers {
         z ^ (z >> 31)
     }
 
+    /// Other numbers, which these decide.
+    pub fn split(&mut self) -> Self {
+        Numbers(self.next())
+    }
+
     pub fn below(&mut self, limit: u32) -> u32 {
         (self.next() % u64::from(limit)) as u32
     }
@@ -33,6 +39,10 @@ impl Numbers {
     /// True once in `n` times.
     pub fn one_in(&mut self, n: u32) -> bool {
         self.below(n) == 0
+    }
+
+    pub fn one_of<T: Copy>(&mut self, items: &[T]) -> T {
+        items[self.below(items.len() as u32) as usize]
     }
 
     /// A number of at most `bits` bits, each bit length as often as any other.

@@ -77,12 +77,12 @@ pub fn install() {
     }));
 }
 
-/// What `call` gives, or where it panics.
+/// What `call` gives, or where it panics. An unwind that is no panic goes on.
 pub fn run<T>(call: impl FnOnce() -> T) -> Result<T, Panic> {
     EXPECTED.set(true);
     let answer = panic::catch_unwind(AssertUnwindSafe(call));
     EXPECTED.set(false);
-    answer.map_err(|_| CAUGHT.take().expect("the hook saw the panic"))
+    answer.map_err(|payload| CAUGHT.take().unwrap_or_else(|| panic::resume_unwind(payload)))
 }
 
 pub fn text(answer: Result<impl Display, Panic>) -> String {

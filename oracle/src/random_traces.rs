@@ -1,13 +1,9 @@
 //! Pseudo-random runs.
 
+use crate::call::{Call, FUNCTIONALITIES, POLARITIES};
 use crate::numbers::Numbers;
-use crate::traces::{Call, Trace};
+use crate::traces::Trace;
 use vl53l0x::inner::Fields;
-use vl53l0x::{GpioFunctionality, GpioPolarity};
-
-fn one_of<T: Copy>(numbers: &mut Numbers, items: &[T]) -> T {
-    items[numbers.below(items.len() as u32) as usize]
-}
 
 /// Few identities are wrong, few timeouts or periods have a place, and no wait is long.
 fn reply(numbers: &mut Numbers, written: &[u8], read: &mut [u8]) {
@@ -17,18 +13,16 @@ fn reply(numbers: &mut Numbers, written: &[u8], read: &mut [u8]) {
         [0xC0] if !odd => read[0] = 0xEE,
         [0x51] if !odd => read[0] = numbers.below(3) as u8,
         [0x71] if !odd => read[0] = 3 + numbers.below(13) as u8,
-        [0x50 | 0x70] if odd => read[0] = one_of(numbers, &[0x7E, 0x7F, 0x80, 0xFE, 0xFF]),
+        [0x50 | 0x70] if odd => read[0] = numbers.one_of(&[0x7E, 0x7F, 0x80, 0xFE, 0xFF]),
         [0x50 | 0x70] => read[0] = numbers.below(20) as u8,
         [0x46] if odd => read[0] = 0xFF,
-        [0x00 | 0x13 | 0x83] if numbers.one_in(4) => read[0] = one_of(numbers, &[0x00, 0x01, 0xF8, 0xFF]),
+        [0x00 | 0x13 | 0x83] if numbers.one_in(4) => read[0] = numbers.one_of(&[0x00, 0x01, 0xF8, 0xFF]),
         [0xF8] if odd => read.fill(0),
         _ => (),
     }
 }
 
-fn call(numbers: &mut Numbers) -> Call {
-    use GpioFunctionality::{LevelHigh, LevelLow, NewSampleReady, OutOfWindow};
-    use GpioPolarity::{ActiveHigh, ActiveLow};
+pub fn call(numbers: &mut Numbers) -> Call {
     match numbers.below(14) {
         0 => Call::WhoAmI,
         1 => Call::SetAddress(numbers.byte()),
@@ -41,21 +35,22 @@ fn call(numbers: &mut Numbers) -> Call {
         7 => Call::SetBudget(19_000 + numbers.below(200_000)),
         8 => Call::SetThresholds(numbers.below(8000) as u16, numbers.below(8200) as u16),
         9 => Call::GetThresholds,
-        10 => Call::SetGpioConfig(
-            one_of(numbers, &[NewSampleReady, LevelLow, LevelHigh, OutOfWindow]),
-            one_of(numbers, &[ActiveLow, ActiveHigh]),
-        ),
+        10 => Call::SetGpioConfig(numbers.one_of(&FUNCTIONALITIES), numbers.one_of(&POLARITIES)),
         11 => Call::ClearInterruptStatus,
         12 => Call::SetSignalRateLimit((115 + numbers.below(22)) << 23 | numbers.below(1 << 23)),
         _ => Call::GetBudget,
     }
 }
 
+pub fn failure_code(numbers: &mut Numbers) -> u8 {
+    1 + numbers.below(255) as u8
+}
+
 /// A transfer fails once in `odds` times.
-fn on(trace: Trace, call: Call, numbers: &mut Numbers, odds: u32) -> Trace {
+pub fn on(trace: Trace, call: Call, numbers: &mut Numbers, odds: u32) -> Trace {
     trace.on(call, |_, written, read| {
         if numbers.one_in(odds) {
-            return Err(1 + numbers.below(255) as u8);
+            return Err(failure_code(numbers));
         }
         reply(numbers, written, read);
         Ok(())

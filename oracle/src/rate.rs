@@ -1,7 +1,8 @@
 //! The signal rate limit, a float, as the word that is written.
 
 use crate::bus::{Bus, FRESH};
-use crate::list::{hex, Kind, List};
+use crate::bytes::hex;
+use crate::list::{Kind, List};
 use crate::numbers::Numbers;
 use vl53l0x::inner::{driver, set_signal_rate_limit};
 
@@ -46,7 +47,7 @@ fn record(list: &mut List, bits: u32) {
     list.record(Kind::Rate, &bytes, &format!("rate {} {answer}", hex(&bytes)), &[outcome.to_string()]);
 }
 
-fn edges() -> Vec<u32> {
+pub fn edges() -> Vec<u32> {
     // Zeros, the least numbers, the last subnormal and the first normal number, of both signs.
     let mut edges = vec![0x00000000, 0x80000000, 0x00000001, 0x80000001];
     edges.extend([0x007FFFFF, 0x00800000, 0x807FFFFF, 0x80800000]);

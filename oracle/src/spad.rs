@@ -1,7 +1,8 @@
 //! The detector map. The selection stands inside `init_hardware`, so each case is a bring-up.
 
 use crate::bus::{Bus, ADDRESS};
-use crate::list::{hex, Kind, List};
+use crate::bytes::hex;
+use crate::list::{Kind, List};
 use crate::numbers::Numbers;
 use vl53l0x::VL53L0x;
 

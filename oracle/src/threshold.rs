@@ -6,6 +6,9 @@ use crate::numbers::Numbers;
 use vl53l0x::inner::driver;
 use vl53l0x::Error;
 
+pub const EDGES: [u16; 19] =
+    [0, 1, 2, 3, 100, 299, 300, 301, 302, 4095, 4096, 8188, 8189, 8190, 8191, 8192, 16382, 65534, 65535];
+
 /// The words written at 0x0E and then at 0x0C, or none if the window is refused.
 fn written(low_mm: u16, high_mm: u16) -> Option<(u16, u16)> {
     let mut bus = Bus::new(|_: &[u8], _: &mut [u8]| Ok(()));
@@ -41,9 +44,8 @@ pub fn list() -> List {
     });
     list.rows("get_interrupt_thresholds_mm", 65536, |word| read(word as u16).to_string());
 
-    let edges = [0, 1, 2, 3, 100, 299, 300, 301, 302, 4095, 4096, 8188, 8189, 8190, 8191, 8192, 16382, 65534, 65535];
-    for low in edges {
-        for high in edges {
+    for low in EDGES {
+        for high in EDGES {
             record(&mut list, low, high);
         }
     }

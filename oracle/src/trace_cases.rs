@@ -1,21 +1,21 @@
 //! The runs whose traces are written.
 
 use crate::antt::File;
+use crate::budget::Replies;
+use crate::budget_cases::BENCH;
 use crate::bus::ADDRESS;
+use crate::call::Call;
 use crate::random_traces as random;
-use crate::traces::{Call, Sensor, Trace};
+use crate::traces::{Sensor, Trace};
 use vl53l0x::inner::Fields;
 use vl53l0x::{GpioFunctionality, GpioPolarity};
 
-/// The budget reads of 01's bench values.
-const BENCH: [u8; 8] = [0xE8, 0x00, 0x96, 0x01, 0xFE, 0x06, 0x25, 0x04];
-
-fn silent() -> Sensor {
+pub fn silent() -> Sensor {
     Sensor::default()
 }
 
 /// Replies to the six budget reads, as often as they are made.
-fn timing(sensor: Sensor, replies: &[[u8; 8]]) -> Sensor {
+pub fn timing(sensor: Sensor, replies: &[Replies]) -> Sensor {
     let bytes = |i: usize| replies.iter().map(|all| [all[i]]).collect::<Vec<_>>();
     let words = |i: usize| replies.iter().map(|all| [all[i], all[i + 1]]).collect::<Vec<_>>();
     let sensor = sensor.at(0x01, &bytes(0)).at(0x51, &words(1)).at(0x71, &words(3));
@@ -23,7 +23,7 @@ fn timing(sensor: Sensor, replies: &[[u8; 8]]) -> Sensor {
 }
 
 /// Bring-up succeeds on this sensor. Its three waits end after no, one and two idle reads.
-fn calm() -> Sensor {
+pub fn calm() -> Sensor {
     timing(silent(), &[BENCH, BENCH])
         .at(0xC0, &[[0xEE]])
         .at(0x89, &[[0x10]])

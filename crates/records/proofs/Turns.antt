@@ -1,37 +1,53 @@
 -- One turn of the run: the first record of what is left is taken, and no count rises by more than one.
 use mathlib.Core.Path.{_≡_, refl, sym}
 use mathlib.Core.Bool.{Bool, true, false, cond}
-use mathlib.Core.List.{List}
+use mathlib.Core.List.{List, [], _∷_}
 use Prim.Native.Nat.{ℕ, suc, _+_, _≤_, zero-le}
+use native.Mathlib.Nat.{add-zero}
 use native.Mathlib.Omega.{arith}
 use native.Mathlib.Numerals.{towards-suc}
 use lib.Dec.{eqb}
-use lib.ListN.{length, drop, drop-of-length-le}
+use lib.ListN.{length, getD, drop, drop-of-length-le}
 use lib.Seq.{drop-cons}
 use Rattle.reactions.specs.declared.Given.{Given}
 use Rattle.reactions.specs.Outcome.{outcomeOf}
 use Rattle.session.specs.Bus.{byte}
-use Rattle.session.specs.Records.{stepDef}
+use Rattle.session.specs.Records.{recordsOf, stepDef}
 use Rattle.records.specs.declared.Counts.{Counts}
 use Rattle.records.specs.declared.runs.Progress.{Progress}
 use Rattle.records.specs.Records.{recordIn, recordAt}
 use Rattle.records.specs.Runs.{Room, oneIf, addedTo, advanced, advance, going}
 
+-- eight bytes that were read one by one
+pub eight-at : (l : List ℕ) (i b₀ b₁ b₂ b₃ b₄ b₅ b₆ b₇ : ℕ)
+    → b₀ ≡ getD l (i + 0) 0 → b₁ ≡ getD l (i + 1) 0 → b₂ ≡ getD l (i + 2) 0 → b₃ ≡ getD l (i + 3) 0
+    → b₄ ≡ getD l (i + 4) 0 → b₅ ≡ getD l (i + 5) 0 → b₆ ≡ getD l (i + 6) 0 → b₇ ≡ getD l (i + 7) 0
+    → b₀ ∷ b₁ ∷ b₂ ∷ b₃ ∷ b₄ ∷ b₅ ∷ b₆ ∷ b₇ ∷ [] ≡ recordAt l i
+eight-at l i b₀ b₁ b₂ b₃ b₄ b₅ b₆ b₇ h₀ h₁ h₂ h₃ h₄ h₅ h₆ h₇ = rw (h₀, h₁, h₂, h₃, h₄, h₅, h₆, h₇, add-zero) refl
+
+module _ (l : List ℕ) (i : ℕ) (h : i + 8 ≤ length l) where
+  -- the bytes from i on: eight, and the rest
+  eight-first : drop i l ≡ getD l i 0 ∷ getD l (i + 1) 0 ∷ getD l (i + 2) 0 ∷ getD l (i + 3) 0 ∷ getD l (i + 4) 0 ∷ getD l (i + 5) 0 ∷ getD l (i + 6) 0 ∷ getD l (i + 7) 0 ∷ drop (i + 8) l
+  eight-first =
+      simp towards-suc
+      (rw (
+        drop-cons l i 0 (omega arith),
+        drop-cons l (suc i) 0 (omega arith),
+        drop-cons l (suc (suc i)) 0 (omega arith),
+        drop-cons l (suc (suc (suc i))) 0 (omega arith),
+        drop-cons l (suc (suc (suc (suc i)))) 0 (omega arith),
+        drop-cons l (suc (suc (suc (suc (suc i))))) 0 (omega arith),
+        drop-cons l (suc (suc (suc (suc (suc (suc i)))))) 0 (omega arith),
+        drop-cons l (suc (suc (suc (suc (suc (suc (suc i))))))) 0 (omega arith),
+      ))
+
+  pub records-first : recordsOf (drop i l) ≡ recordIn (recordAt l i) ∷ recordsOf (drop (i + 8) l)
+  unfolding recordsOf recordIn
+  records-first = rw eight-first refl
+
 pub turn : (p : Progress) (l : List ℕ) (i : ℕ) → i + 8 ≤ length l → going (advance p (recordAt l i)) (drop (i + 8) l) ≡ going p (drop i l)
 unfolding going
-turn p l i h =
-    sym
-    (simp towards-suc
-    (rw (
-      drop-cons l i 0 (omega arith),
-      drop-cons l (suc i) 0 (omega arith),
-      drop-cons l (suc (suc i)) 0 (omega arith),
-      drop-cons l (suc (suc (suc i))) 0 (omega arith),
-      drop-cons l (suc (suc (suc (suc i)))) 0 (omega arith),
-      drop-cons l (suc (suc (suc (suc (suc i))))) 0 (omega arith),
-      drop-cons l (suc (suc (suc (suc (suc (suc i)))))) 0 (omega arith),
-      drop-cons l (suc (suc (suc (suc (suc (suc (suc i))))))) 0 (omega arith),
-    )))
+turn p l i h = sym (rw (eight-first l i h) refl)
 
 pub no-turn : (p : Progress) (l : List ℕ) (i : ℕ) → length l ≤ i → p ≡ going p (drop i l)
 unfolding going

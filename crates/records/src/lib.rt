@@ -2,6 +2,7 @@
 mod one;
 mod runs;
 
+pub use one::record_at;
 pub use one::step;
 pub use runs::run;
 pub use runs::run_fresh;

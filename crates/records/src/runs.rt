@@ -1,13 +1,13 @@
 // The list run.
 ghost use mathlib.Core.Path.{_≡_};
-ghost use Prim.Native.Nat.{_+_, _≤_, _%_, _^_};
+ghost use Prim.Native.Nat.{_%_, _^_};
 ghost use lib.ListN.{length};
 ghost use Rattle.session.specs.Machine.{illFormed};
 ghost use Rattle.session.specs.History.{runDef};
-ghost use Rattle.records.specs.Records.{recordIn, recordAt};
 ghost use Rattle.records.specs.Runs.{Room, oneIf, addedTo, isIllFormed, noCounts, progressOf, advanced, advance, starting, going, finished, stoppedRun, listRunOf, RunsFresh};
 use crate::Counts;
 use crate::ListRun;
+use crate::one::record_at;
 use crate::one::step;
 use reactions::Given;
 use reactions::Outcome;
@@ -19,22 +19,6 @@ struct Progress {
     session: Session,
     counts: Counts,
     broken: bool,
-}
-
-fn record_at(bytes: &[u8], at: usize) -> [u8; 8]
-    requires { ⌜ at + 8 ≤ length (now bytes) ⌝ }
-    ensures { λ r. ⌜ r ≡ recordAt (now (bytes .entry)) at ⌝ }
-{
-    [
-        bytes[at],
-        bytes[at + 1],
-        bytes[at + 2],
-        bytes[at + 3],
-        bytes[at + 4],
-        bytes[at + 5],
-        bytes[at + 6],
-        bytes[at + 7],
-    ]
 }
 
 fn one_if(kind: u8, wanted: u8) -> u64

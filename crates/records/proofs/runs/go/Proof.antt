@@ -31,7 +31,7 @@ loop-holds c = (
 )
 
 record-at-requires : tie.Need-record-at-requires Inv-loop μ-loop
-record-at-requires c κs = omega arith
+record-at-requires c κs = search needs
 
 advance-requires : tie.Need-advance-requires Inv-loop μ-loop
 advance-requires c κs = room-up _ _ _ (omega arith) (c .before .before .loop .inv .3)

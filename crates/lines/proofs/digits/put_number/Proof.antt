@@ -1,0 +1,21 @@
+-- `lines::digits::put_number` meets its contract.
+use native.Mathlib.Omega.{arith}
+use borrow.Author.Needs.{needs}
+use Rattle.lines.proofs.Numbers.{word-digits}
+use Rattle.lines.proofs.Putting.{then}
+use Rattle.lines.proofs.digits.put_number.Statement.{statement}
+use Rattle.lines.proofs.digits.put_number.Tie as tie
+
+put-byte-requires : tie.Need-put-byte-requires
+put-byte-requires c κs = search needs
+
+put-decimal-requires : tie.Need-put-decimal-requires
+put-decimal-requires c κs = omega (arith, word-digits (c .before .before .before .args .n) (omega arith))
+
+returns : tie.Need-returns
+returns c =
+    let n = c .before .before .before .before .args .n in
+    (then (c .before .before .put-byte .ensures) (c .put-decimal .ensures), omega (arith, word-digits n (omega arith)))
+
+pub put-number-spec : {M : Type 1} → statement M
+put-number-spec = tie.close (tie.spec put-byte-requires put-decimal-requires returns)

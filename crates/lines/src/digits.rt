@@ -1,0 +1,84 @@
+// Bytes put into a line: single ones, hexadecimal pairs and decimal numbers. Each function gives the place after what it put.
+ghost use mathlib.Core.Path.{_≡_};
+ghost use mathlib.Core.List.{[], _∷_};
+ghost use Prim.Native.Nat.{_+_, _<_, _≤_, min};
+ghost use lib.ListN.{length, take};
+ghost use Rattle.lines.specs.Lines.{space, hexDigit, hexPair, hexPairs, decimal};
+ghost use Rattle.lines.specs.Put.{Put};
+
+pub fn put_byte(bytes: &mut [u8; 32], at: usize, byte: u8) -> usize
+    requires { ⌜ at < 32 ⌝ }
+    ensures { λ r. ⌜ Put (now (bytes .entry)) at (byte ∷ []) (now (bytes .exit)) r ⌝ }
+{
+    bytes[at] = byte;
+    at + 1
+}
+
+fn hex_digit(n: u8) -> u8
+    requires { ⌜ n < 16 ⌝ }
+    ensures { λ r. ⌜ r ≡ hexDigit n ⌝ }
+{
+    if n < 10 { b'0' + n } else { b'A' - 10 + n }
+}
+
+pub fn put_pair(bytes: &mut [u8; 32], at: usize, byte: u8) -> usize
+    requires { ⌜ at + 2 ≤ 32 ⌝ }
+    ensures { λ r. ⌜ Put (now (bytes .entry)) at (hexPair byte) (now (bytes .exit)) r ⌝ }
+{
+    bytes[at] = hex_digit(byte / 16);
+    bytes[at + 1] = hex_digit(byte % 16);
+    at + 2
+}
+
+// A transfer that no driver made may count more bytes than it has.
+fn at_most_7(count: u8) -> usize
+    ensures { λ r. ⌜ r ≡ min count 7 ⌝ }
+{
+    if count < 7 { count as usize } else { 7 }
+}
+
+pub fn put_pairs(bytes: &mut [u8; 32], at: usize, written: [u8; 7], count: u8) -> usize
+    requires { ⌜ at + 14 ≤ 32 ⌝ }
+    ensures { λ r. ⌜ Put (now (bytes .entry)) at (hexPairs (take count written)) (now (bytes .exit)) r ⌝ }
+    ensures { λ r. ⌜ r ≤ at + 14 ⌝ }
+{
+    let n = at_most_7(count);
+    let mut next = at;
+    let mut i = 0;
+    while i < n {
+        next = put_pair(bytes, next, written[i]);
+        i += 1;
+    }
+    next
+}
+
+fn put_decimal(bytes: &mut [u8; 32], at: usize, n: u32) -> usize
+    requires { ⌜ at + length (decimal n) ≤ 32 ⌝ }
+    ensures { λ r. ⌜ Put (now (bytes .entry)) at (decimal n) (now (bytes .exit)) r ⌝ }
+{
+    if n < 10 {
+        put_byte(bytes, at, b'0' + n as u8)
+    } else {
+        let next = put_decimal(bytes, at, n / 10);
+        put_byte(bytes, next, b'0' + (n % 10) as u8)
+    }
+}
+
+// A number after a space: of ten digits at most, and of three.
+pub fn put_number(bytes: &mut [u8; 32], at: usize, n: u32) -> usize
+    requires { ⌜ at + 11 ≤ 32 ⌝ }
+    ensures { λ r. ⌜ Put (now (bytes .entry)) at (space ∷ decimal n) (now (bytes .exit)) r ⌝ }
+    ensures { λ r. ⌜ r ≤ at + 11 ⌝ }
+{
+    let next = put_byte(bytes, at, b' ');
+    put_decimal(bytes, next, n)
+}
+
+pub fn put_small(bytes: &mut [u8; 32], at: usize, n: u8) -> usize
+    requires { ⌜ at + 4 ≤ 32 ⌝ }
+    ensures { λ r. ⌜ Put (now (bytes .entry)) at (space ∷ decimal n) (now (bytes .exit)) r ⌝ }
+    ensures { λ r. ⌜ r ≤ at + 4 ⌝ }
+{
+    let next = put_byte(bytes, at, b' ');
+    put_decimal(bytes, next, n as u32)
+}
