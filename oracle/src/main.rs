@@ -29,7 +29,7 @@ mod traces;
 use std::io::{stdin, stdout, BufReader, BufWriter, Result};
 use std::path::Path;
 
-const USAGE: &str = "usage: generate lists|traces|streams FOLDER [SEED], or generate lines|fields";
+const USAGE: &str = "usage: generate lists|traces|streams|sample FOLDER [SEED], or generate lines|fields";
 
 fn main() -> Result<()> {
     let arguments: Vec<String> = std::env::args().skip(1).collect();
@@ -59,6 +59,7 @@ fn write(what: &str, folder: &Path) -> Result<()> {
             None => stream_cases::files().write(folder),
             Some(_) => random_streams::files().write(folder),
         },
+        "sample" => stream_cases::sample().write(folder),
         "traces" => antt::write(&trace_cases::files(), folder),
         _ => panic!("{USAGE}"),
     }

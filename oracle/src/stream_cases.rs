@@ -34,6 +34,16 @@ pub fn files() -> Files {
     files
 }
 
+/// A small list to look at: a sensor is brought up, its budget set, and one distance read.
+pub fn sample() -> Files {
+    let mut stream = Stream::new();
+    let mut sensor = CalmSensor::new(Numbers::new(9));
+    for call in [BRING_UP, Call::SetBudget(33_000), Call::ReadRangeSingle] {
+        done(&mut stream, call, &mut sensor);
+    }
+    stream.files(&[])
+}
+
 const BRING_UP: Call = Call::WithAddress(ADDRESS);
 
 /// A call without failures is answered Done; a poll may come too early, and is made again.
