@@ -5,6 +5,7 @@ use mathlib.Core.List.{List}
 use Prim.Native.Nat.{ℕ, zero, suc}
 use native.Mathlib.Omega.{arith}
 use borrow.Author.Tests.{ne-eqb}
+use Rattle.session.specs.declared.Instruction.{Instruction}
 use Rattle.session.specs.declared.Session.{Session}
 use Rattle.session.specs.declared.Transfer.{Transfer}
 use Rattle.session.specs.declared.Answer.{Answer}
@@ -18,15 +19,15 @@ use Rattle.calls.proofs.Programs.{program-named}
 use Rattle.steps.specs.Steps.{shapeOf, settled}
 use Rattle.checks.specs.Sound.{Sound, strayIn}
 use Rattle.reactions.specs.Outcome.{noTransfer}
-use Rattle.reactions.specs.Reactions.{deciding}
-use Rattle.reactions.proofs.Meets.{decides}
+use Rattle.reactions.specs.Reactions.{wayOf, planOf, acting}
+use Rattle.reactions.proofs.Meets.{goes-by}
 use Rattle.driver.specs.Replies.{taking, replying, launching, beginning, outstandingOf}
 use Rattle.checks.proofs.Places.{at-step, step-sound}
 
 -- what the arguments of a call decide
-pub launches : (s : Session) → deciding (settled (programFor (callOf (s .code)) .entry (contextOf s))) 0 0 s ≡ launching s
+pub launches : (s : Session) → acting (planOf (wayOf (settled (programFor (callOf (s .code)) .entry (contextOf s))) 0 0) Instruction.Nowhere s) s ≡ launching s
 unfolding launching
-launches s = decides (programFor (callOf (s .code)) .entry (contextOf s)) 0 0 s ∙ sym (rw (program-named (s .code)) refl)
+launches s = goes-by (programFor (callOf (s .code)) .entry (contextOf s)) 0 0 Instruction.Nowhere s ∙ sym (rw (program-named (s .code)) refl)
 
 -- the bytes of a reply, by the read length of the shape
 reads-of : (op : Op) (c : Context) → sendOf op c .reads ≡ shapeOf op .reads

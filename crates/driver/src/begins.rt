@@ -11,8 +11,10 @@ use checks::arguments_ok;
 use checks::ill_formed;
 use checks::negated;
 use reactions::Outcome;
-use reactions::decide;
+use reactions::go;
+use reactions::way_of;
 use session::Answer;
+use session::Instruction;
 use session::Session;
 
 // What the arguments decide: an answer with no transfer made, or the first transfer.
@@ -20,7 +22,8 @@ fn launch(s: Session) -> Outcome
     requires { ⌜ Sound s ⌝ }
     ensures { λ r. ⌜ r ≡ outcomeOf (launching s) ⌝ }
 {
-    decide(steps::entry(calls::call_of(s.code), s), 0, 0, s)
+    let way = way_of(steps::entry(calls::call_of(s.code), s), 0, 0);
+    go(way, Instruction::Nowhere, s)
 }
 
 // A bring-up leaves none of the fields.

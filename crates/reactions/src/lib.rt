@@ -4,12 +4,12 @@ ghost use Prim.Native.Nat.{_≤_};
 ghost use Rattle.session.specs.Calls.{programOf};
 ghost use Rattle.calls.specs.Calls.{stepsIn};
 ghost use Rattle.session.specs.Instructions.{sendOf};
-ghost use Rattle.session.specs.Machine.{sent, contextOf, addressOf, heldBy, sending, resting, answering, giving, react, toReply};
+ghost use Rattle.session.specs.Machine.{sent, contextOf, addressOf, sending, resting, answering, giving, react, toReply};
 ghost use Rattle.session.specs.Steps.{opOf};
 ghost use Rattle.steps.specs.Steps.{mostAt, shapeOf};
-ghost use Rattle.reactions.specs.Outcome.{outcomeOf, noTransfer};
 ghost use Rattle.checks.specs.Sound.{Sound};
-ghost use Rattle.reactions.specs.Reactions.{ending, arriving, deciding, decided, failing, reported, afterWrite, afterRead, idling, afterWait, keepFailure, afterRange, concluding, entering, reacting};
+ghost use Rattle.reactions.specs.Outcome.{outcomeOf, noTransfer};
+ghost use Rattle.reactions.specs.Reactions.{keepFailure, keepGood, keptBy, wayOf, unlessFailed, reported, idling, waiting, decidedBy, wayAfter, arrivalAt, planOf, mostIn, ending, concluding, acting};
 use checks::limit_of;
 use session::Answer;
 use session::Driver;
@@ -35,6 +35,21 @@ pub struct Outcome {
     pub transfer: Transfer,
     pub transfers: u32,
     pub session: Session,
+}
+
+// Where a reply leads: on to a step, to the same read once more after so many idle ones, or out with an answer.
+pub enum Way {
+    To(u32),
+    Again(u32),
+    Out(Answer),
+}
+
+// What that comes to: an instruction is sent at a step after so many idle reads there, the call ends after its last
+// instruction, or with an answer.
+pub enum Plan {
+    Send(Instruction, u8, u32),
+    End,
+    Answer(Answer),
 }
 
 // All that a call carried becomes zero.
@@ -139,18 +154,12 @@ fn give(x: Answer, s: Session) -> Outcome
     answer(x, steps::held(s.code, driver), s)
 }
 
-fn fail(code: u8, s: Session) -> Outcome
-    ensures { λ r. ⌜ r ≡ outcomeOf (failing code s) ⌝ }
-{
-    give(Answer::BusError(code), s)
-}
-
 fn end(how: End, s: Session) -> Outcome
     ensures { λ r. ⌜ r ≡ outcomeOf (ending how s) ⌝ }
 {
     match how {
         End::Success(value, driver) => answer(Answer::Done(value), driver, s),
-        End::Failure(code) => fail(code, s),
+        End::Failure(code) => give(Answer::BusError(code), s),
     }
 }
 
@@ -162,51 +171,108 @@ fn conclude(s: Session) -> Outcome
     end(steps::final_of(calls::call_of(s.code), s), s)
 }
 
-// The instruction at a step is sent.
-fn enter(step: u8, s: Session) -> Outcome
+fn act(plan: Plan, s: Session) -> Outcome
     requires { ⌜ Sound s ⌝ }
-    ensures { λ r. ⌜ r ≡ outcomeOf (entering step s) ⌝ }
+    requires { ⌜ s .a ≤ mostIn plan ⌝ }
+    ensures { λ r. ⌜ r ≡ outcomeOf (acting plan s) ⌝ }
 {
-    send(calls::instruction_at(s.code, step), step, 0, s)
+    match plan {
+        Plan::Send(i, step, idle) => send(i, step, idle, s),
+        Plan::End => conclude(s),
+        Plan::Answer(x) => give(x, s),
+    }
 }
 
-fn arrive_within(length: u8, step: u32, s: Session) -> Outcome
-    requires { ⌜ Sound s ⌝ }
+fn arrival_within(length: u8, step: u32, s: Session) -> Plan
     requires { ⌜ length ≡ stepsIn (s .code) ⌝ }
-    ensures { λ r. ⌜ r ≡ outcomeOf (arriving step s) ⌝ }
+    ensures { λ r. ⌜ r ≡ arrivalAt step s ⌝ }
 {
     if step < length as u32 {
-        enter(step as u8, s)
+        Plan::Send(calls::instruction_at(s.code, step as u8), step as u8, 0)
     } else {
-        conclude(s)
+        Plan::End
     }
 }
 
-pub fn arrive(step: u32, s: Session) -> Outcome
-    requires { ⌜ Sound s ⌝ }
-    ensures { λ r. ⌜ r ≡ outcomeOf (arriving step s) ⌝ }
+// The instruction at a step of the session's call; past the last, the end.
+fn arrival_at(step: u32, s: Session) -> Plan
+    ensures { λ r. ⌜ r ≡ arrivalAt step s ⌝ }
 {
-    arrive_within(calls::steps_in(s.code), step, s)
+    arrival_within(calls::steps_in(s.code), step, s)
 }
 
-// What was decided, on the way to a step; a leap leaves out `over` instructions.
-pub fn decide(next: Next, over: u8, step: u32, s: Session) -> Outcome
+fn plan_of(way: Way, i: Instruction, s: Session) -> Plan
+    ensures { λ r. ⌜ r ≡ planOf way i s ⌝ }
+{
+    match way {
+        Way::To(step) => arrival_at(step, s),
+        Way::Again(idle) => Plan::Send(i, s.step, idle),
+        Way::Out(x) => Plan::Answer(x),
+    }
+}
+
+// A way from an instruction, to its end.
+pub fn go(way: Way, i: Instruction, s: Session) -> Outcome
     requires { ⌜ Sound s ⌝ }
+    requires { ⌜ s .a ≤ mostAt i ⌝ }
+    ensures { λ r. ⌜ r ≡ outcomeOf (acting (planOf way i s) s) ⌝ }
+{
+    act(plan_of(way, i, s), s)
+}
+
+fn keep_failure(failure: u8, s: Session) -> Session
+    ensures { λ r. ⌜ r ≡ keepFailure failure s ⌝ }
+{
+    let mut t = s;
+    t.failed = failure;
+    t
+}
+
+fn keep_good(x: Shape, s: Session, failure: u8, bytes: [u8; 6]) -> Session
+    ensures { λ r. ⌜ r ≡ keepGood x s failure bytes ⌝ }
+{
+    if failure == 0 {
+        steps::keep(x.slot, x.reads, s, bytes)
+    } else {
+        s
+    }
+}
+
+// What is kept of a reply: the bytes that a read asked for, and the failure of a range read.
+fn kept_by(x: Shape, s: Session, failure: u8, bytes: [u8; 6]) -> Session
+    ensures { λ r. ⌜ r ≡ keptBy (x .kind) x s failure bytes ⌝ }
+{
+    let kind = x.kind;
+    match kind {
+        Kind::Write => s,
+        Kind::Read => keep_good(x, s, failure, bytes),
+        Kind::Detector => s,
+        Kind::Status => s,
+        Kind::Start => s,
+        Kind::Range => keep_good(x, keep_failure(failure, s), failure, bytes),
+    }
+}
+
+// A leap leaves out `over` instructions.
+pub fn way_of(next: Next, over: u8, step: u32) -> Way
     requires { ⌜ step ≤ 256 ⌝ }
-    ensures { λ r. ⌜ r ≡ outcomeOf (deciding next over step s) ⌝ }
+    ensures { λ r. ⌜ r ≡ wayOf next over step ⌝ }
 {
     match next {
-        Next::Onward => arrive(step, s),
-        Next::Leap => arrive(step + over as u32, s),
-        Next::Stop(x) => give(x, s),
+        Next::Onward => Way::To(step),
+        Next::Leap => Way::To(step + over as u32),
+        Next::Stop(x) => Way::Out(x),
     }
 }
 
-fn decided(i: Instruction, over: u8, s: Session) -> Outcome
-    requires { ⌜ Sound s ⌝ }
-    ensures { λ r. ⌜ r ≡ outcomeOf (decided (opOf i) over s) ⌝ }
+fn unless_failed(failure: u8, code: u8, way: Way) -> Way
+    ensures { λ r. ⌜ r ≡ unlessFailed failure code way ⌝ }
 {
-    decide(steps::verdict(i, s), over, s.step as u32 + 1, s)
+    if failure == 0 {
+        way
+    } else {
+        Way::Out(Answer::BusError(code))
+    }
 }
 
 // If clearing fails after a failed range read, call 6 reports the read's code.
@@ -220,113 +286,58 @@ fn reported(code: u8, s: Session) -> u8
     }
 }
 
-fn after_write(i: Instruction, over: u8, s: Session, failure: u8) -> Outcome
-    requires { ⌜ Sound s ⌝ }
-    ensures { λ r. ⌜ r ≡ outcomeOf (afterWrite (opOf i) over s failure) ⌝ }
-{
-    if failure == 0 {
-        decided(i, over, s)
-    } else {
-        fail(reported(failure, s), s)
-    }
-}
-
-fn after_read(i: Instruction, x: Shape, s: Session, failure: u8, bytes: [u8; 6]) -> Outcome
-    requires { ⌜ Sound s ⌝ }
-    ensures { λ r. ⌜ r ≡ outcomeOf (afterRead (opOf i) x s failure bytes) ⌝ }
-{
-    if failure == 0 {
-        decided(i, x.over, steps::keep(x.slot, x.reads, s, bytes))
-    } else {
-        fail(failure, s)
-    }
-}
-
 // The read that reaches the limit idle gives Timeout.
-fn idled(i: Instruction, limit: u32, s: Session) -> Outcome
-    requires { ⌜ Sound s ⌝ }
-    requires { ⌜ s .a ≤ mostAt i ⌝ }
-    ensures { λ r. ⌜ r ≡ outcomeOf (idling (opOf i) limit s) ⌝ }
+fn idling(idle: u32, limit: u32) -> Way
+    ensures { λ r. ⌜ r ≡ idling idle limit ⌝ }
 {
-    let reads = s.idle as u64 + 1;
+    let reads = idle as u64 + 1;
     if reads < limit as u64 {
-        send(i, s.step, reads as u32, s)
+        Way::Again(reads as u32)
     } else {
-        give(Answer::Timeout, s)
+        Way::Out(Answer::Timeout)
     }
 }
 
-fn after_wait(i: Instruction, idle: bool, limit: u32, s: Session, failure: u8) -> Outcome
-    requires { ⌜ Sound s ⌝ }
-    requires { ⌜ s .a ≤ mostAt i ⌝ }
-    ensures { λ r. ⌜ r ≡ outcomeOf (afterWait (opOf i) idle limit s failure) ⌝ }
+fn waiting(idle: bool, limit: u32, s: Session) -> Way
+    ensures { λ r. ⌜ r ≡ waiting idle limit s ⌝ }
 {
-    if failure == 0 {
-        if idle {
-            idled(i, limit, s)
-        } else {
-            arrive(s.step as u32 + 1, s)
-        }
+    if idle {
+        idling(s.idle, limit)
     } else {
-        fail(failure, s)
+        Way::To(s.step as u32 + 1)
     }
 }
 
-fn keep_failure(failure: u8, s: Session) -> Session
-    ensures { λ r. ⌜ r ≡ keepFailure failure s ⌝ }
+fn decided(i: Instruction, over: u8, s: Session) -> Way
+    ensures { λ r. ⌜ r ≡ decidedBy (opOf i) over s ⌝ }
 {
-    let mut t = s;
-    t.failed = failure;
-    t
+    way_of(steps::verdict(i, s), over, s.step as u32 + 1)
 }
 
-// A failed range read is kept, and the interrupt is cleared all the same.
-fn after_range(s: Session, failure: u8, bytes: [u8; 6]) -> Outcome
-    requires { ⌜ Sound s ⌝ }
-    ensures { λ r. ⌜ r ≡ outcomeOf (afterRange s failure bytes) ⌝ }
-{
-    if failure == 0 {
-        arrive(
-            s.step as u32 + 1,
-            steps::keep(4, 2, keep_failure(0, s), bytes),
-        )
-    } else {
-        arrive(s.step as u32 + 1, keep_failure(failure, s))
-    }
-}
-
-// By the shape of the instruction that the session waits at.
-fn react_as(i: Instruction, x: Shape, s: Session, failure: u8, bytes: [u8; 6]) -> Outcome
-    requires { ⌜ Sound s ⌝ }
-    requires { ⌜ s .a ≤ mostAt i ⌝ }
-    ensures { λ r. ⌜ r ≡ outcomeOf (reacting (opOf i) x s failure bytes) ⌝ }
+// Where a session that has kept a reply goes.
+fn way_after(i: Instruction, x: Shape, s: Session, failure: u8, bytes: [u8; 6]) -> Way
+    ensures { λ r. ⌜ r ≡ wayAfter (x .kind) (opOf i) x s failure bytes ⌝ }
 {
     let kind = x.kind;
     match kind {
-        Kind::Write => after_write(i, x.over, s, failure),
-        Kind::Read => after_read(i, x, s, failure, bytes),
-        Kind::Detector => after_wait(
-            i,
-            bytes[0] == 0,
-            limit_of(s.code, Kind::Detector),
-            s,
+        Kind::Write => unless_failed(failure, reported(failure, s), decided(i, x.over, s)),
+        Kind::Read => unless_failed(failure, failure, decided(i, x.over, s)),
+        Kind::Detector => unless_failed(
             failure,
-        ),
-        Kind::Status => after_wait(
-            i,
-            bytes[0] % 8 == 0,
-            limit_of(s.code, Kind::Status),
-            s,
             failure,
+            waiting(bytes[0] == 0, limit_of(s.code, Kind::Detector), s),
         ),
-        Kind::Start => after_wait(
-            i,
-            bytes[0] % 2 != 0,
-            limit_of(s.code, Kind::Start),
-            s,
+        Kind::Status => unless_failed(
             failure,
+            failure,
+            waiting(bytes[0] % 8 == 0, limit_of(s.code, Kind::Status), s),
         ),
-        Kind::Range => after_range(s, failure, bytes),
+        Kind::Start => unless_failed(
+            failure,
+            failure,
+            waiting(bytes[0] % 2 != 0, limit_of(s.code, Kind::Start), s),
+        ),
+        Kind::Range => Way::To(s.step as u32 + 1),
     }
 }
 
@@ -336,5 +347,6 @@ pub fn react(i: Instruction, x: Shape, s: Session, failure: u8, bytes: [u8; 6]) 
     requires { ⌜ x ≡ shapeOf (opOf i) ⌝ }
     ensures { λ r. ⌜ r ≡ outcomeOf (react (opOf i) (programOf (s .code)) s (toReply failure bytes)) ⌝ }
 {
-    react_as(i, x, s, failure, bytes)
+    let t = kept_by(x, s, failure, bytes);
+    go(way_after(i, x, t, failure, bytes), i, t)
 }

@@ -1,27 +1,25 @@
 -- `reactions::decided` meets its contract.
-use mathlib.Core.Path.{_∙_, ap}
+use native.Mathlib.Numerals.{add-one}
 use borrow.Author.Needs.{needs}
-use Rattle.session.specs.Steps.{opOf}
-use Rattle.reactions.specs.Outcome.{outcomeOf}
-use Rattle.reactions.proofs.Meets.{decides-next}
+use Rattle.reactions.specs.Reactions.{decidedBy}
 use Rattle.reactions.proofs.decided.Statement.{statement}
 use Rattle.reactions.proofs.decided.Tie as tie
 
 verdict-requires : tie.Need-verdict-requires
 verdict-requires c κs = search needs
 
-cast-decide : tie.Need-cast-decide
-cast-decide c = search needs
+cast-way-of : tie.Need-cast-way-of
+cast-way-of c = search needs
 
-add-decide : tie.Need-add-decide
-add-decide c = search needs
+add-way-of : tie.Need-add-way-of
+add-way-of c = search needs
 
-decide-requires : tie.Need-decide-requires
-decide-requires c κs = search needs
+way-of-requires : tie.Need-way-of-requires
+way-of-requires c κs = search needs
 
 returns : tie.Need-returns
-returns c = let a = c .before .before .before .args in
-    (rw (c .before .before .verdict .ensures) at (c .decide .ensures)) ∙ ap outcomeOf (decides-next (opOf (a .i)) (a .over) (a .s))
+unfolding decidedBy
+returns c = rw (add-one, c .before .before .verdict .ensures) at (c .way-of .ensures)
 
 pub decided-spec : {M : Type 1} → statement M
-decided-spec = tie.close (tie.spec verdict-requires cast-decide add-decide decide-requires returns)
+decided-spec = tie.close (tie.spec verdict-requires cast-way-of add-way-of way-of-requires returns)

@@ -1,12 +1,14 @@
 -- `driver::begins::launch` meets its contract.
 use mathlib.Core.Path.{_∙_, ap, sym, subst}
 use Prim.Native.Nat.{_≤_}
+use native.Mathlib.Omega.{arith}
 use borrow.Author.Needs.{needs}
 use Rattle.calls.specs.declared.Call.{Call}
 use Rattle.steps.specs.Ends.{mostFor}
+use Rattle.steps.specs.Steps.{mostAt}
+use Rattle.checks.proofs.Places.{stored-fits}
 use Rattle.reactions.specs.Outcome.{outcomeOf}
 use Rattle.driver.proofs.Meets.{launches}
-use Rattle.checks.proofs.Places.{stored-fits}
 use Rattle.driver.proofs.begins.launch.Statement.{statement}
 use Rattle.driver.proofs.begins.launch.Tie as tie
 
@@ -17,12 +19,16 @@ entry-requires : tie.Need-entry-requires
 entry-requires c κs = let s = c .before .args .s in
     subst (λ (x : Call). s .a ≤ mostFor x) (sym (c .call-of .ensures)) (stored-fits (s .code) (s .a) (s .b) (c .before .pre .arguments))
 
-decide-requires : tie.Need-decide-requires
-decide-requires c κs = search needs
+way-of-requires : tie.Need-way-of-requires
+way-of-requires c κs = search needs
+
+go-requires : tie.Need-go-requires
+unfolding mostAt
+go-requires c κs = (c .before .before .before .pre, omega arith)
 
 returns : tie.Need-returns
-returns c = let s = c .before .before .before .args .s in
-    (rw (c .before .entry .ensures, c .before .before .call-of .ensures) at (c .decide .ensures)) ∙ ap outcomeOf (launches s)
+returns c = (rw (c .before .way-of .ensures, c .before .before .entry .ensures, c .before .before .before .call-of .ensures) at (c .go .ensures)) ∙ ap outcomeOf (launches (c .before .before .before .before .args .s))
 
 pub launch-spec : {M : Type 1} → statement M
-launch-spec = tie.close (tie.spec call-of-requires entry-requires decide-requires returns)
+launch-spec =
+    tie.close (tie.spec call-of-requires entry-requires way-of-requires go-requires returns)
