@@ -94,10 +94,13 @@ pub fn limit_of(code: u8, kind: Kind) -> u32
     }
 }
 
-// Idle reads at or over the limit of the instruction at a step.
+// Idle reads at or over the limit of the instruction at a step. Every limit is over 0, so that most steps need no look-up.
 fn idle_reached(code: u8, step: u8, idle: u32) -> bool
     ensures { λ r. ⌜ r ≡ idleReached code step idle ⌝ }
 {
+    if idle == 0 {
+        return false;
+    }
     let kind = steps::shape_of(calls::instruction_at(code, step)).kind;
     limit_of(code, kind) <= idle
 }
@@ -137,7 +140,7 @@ fn malformed(s: Session) -> bool
 pub fn ill_formed(s: Session) -> bool
     ensures { λ r. ⌜ r ≡ illFormed s ⌝ }
 {
-    both(negated(s.code == 0), malformed(s))
+    if s.code == 0 { false } else { malformed(s) }
 }
 
 // A byte that is not zero, from the `from`-th on.

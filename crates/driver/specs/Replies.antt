@@ -1,9 +1,8 @@
 -- Calls and replies, over the plain data of the session's instruction. That they are the machine's is proved.
 use mathlib.Core.Bool.{Bool, cond}
 use mathlib.Core.List.{List}
-use Prim.Native.Nat.{ℕ, _≤_}
+use Prim.Native.Nat.{ℕ}
 use lib.ListN.{drop}
-use mathlib.Core.Path.{_≡_}
 use Rattle.session.specs.declared.Transfer.{Transfer}
 use Rattle.session.specs.Claim1.{outstanding as firstSent}
 use Rattle.reactions.specs.Outcome.{noTransfer}
@@ -13,15 +12,6 @@ use Rattle.session.specs.declared.Instruction.{Instruction}
 use Rattle.session.specs.Calls.{opsOf, programOf}
 use Rattle.session.specs.Machine.{Outcome as Result, waitsNow, malformed, refused, toReply, react, onOps, contextOf, decide}
 use Rattle.session.specs.Steps.{opOf}
-use Rattle.steps.specs.declared.Shape.{Shape}
-use Rattle.steps.specs.Steps.{shapeOf, mostAt}
-use Rattle.checks.specs.Sound.{Sound}
-
--- what the code knows where a reply is taken
-pub record Taken (i : Instruction) (x : Shape) (s : Session) : Type 0 where
-  pub sound : Sound s
-  pub fits : s .a ≤ mostAt i
-  pub shape : x ≡ shapeOf (opOf i)
 
 unfoldable pub taking : Bool → Instruction → Session → ℕ → List ℕ → Result
 taking strays i s f bs = cond strays (refused Answer.StrayByte s) (react (opOf i) (programOf (s .code)) s (toReply f bs))

@@ -2,14 +2,16 @@
 ghost use mathlib.Core.Path.{_≡_};
 ghost use Rattle.session.specs.Calls.{argumentsOk};
 ghost use Rattle.session.specs.Machine.{illFormed, begun, notUp, beginDef, otherDef};
-ghost use Rattle.reactions.specs.Outcome.{outcomeOf};
 ghost use Rattle.checks.specs.Sound.{Sound};
+ghost use Rattle.reactions.specs.Outcome.{outcomeOf};
+ghost use Rattle.reactions.specs.Reactions.{Reaches};
 ghost use Rattle.driver.specs.Replies.{launching, beginning};
 use crate::replies::broken;
 use crate::replies::refuse;
 use checks::arguments_ok;
 use checks::ill_formed;
 use checks::negated;
+use reactions::Course;
 use reactions::Outcome;
 use reactions::go;
 use reactions::way_of;
@@ -18,12 +20,16 @@ use session::Instruction;
 use session::Session;
 
 // What the arguments decide: an answer with no transfer made, or the first transfer.
-fn launch(s: Session) -> Outcome
+fn launch(s: Session) -> Course
     requires { ⌜ Sound s ⌝ }
-    ensures { λ r. ⌜ r ≡ outcomeOf (launching s) ⌝ }
+    ensures { λ r. ⌜ Reaches r (launching s) ⌝ }
 {
     let way = way_of(steps::entry(calls::call_of(s.code), s), 0, 0);
-    go(way, Instruction::Nowhere, s)
+    Course {
+        way,
+        at: Instruction::Nowhere,
+        session: s,
+    }
 }
 
 // A bring-up leaves none of the fields.
@@ -52,9 +58,9 @@ fn not_up(code: u8, up: bool) -> bool
     if code == 1 { false } else { negated(up) }
 }
 
-fn begin_up(absent: bool, s: Session, started: Session) -> Outcome
+fn begin_up(absent: bool, s: Session, started: Session) -> Course
     requires { ⌜ Sound started ⌝ }
-    ensures { λ r. ⌜ r ≡ outcomeOf (beginning absent s started) ⌝ }
+    ensures { λ r. ⌜ Reaches r (beginning absent s started) ⌝ }
 {
     if absent {
         refuse(Answer::NotUp, s)
@@ -63,10 +69,10 @@ fn begin_up(absent: bool, s: Session, started: Session) -> Outcome
     }
 }
 
-fn begin_if(ill: bool, ok: bool, s: Session, code: u8, a: u32, b: u16) -> Outcome
+fn begin_if(ill: bool, ok: bool, s: Session, code: u8, a: u32, b: u16) -> Course
     requires { ⌜ ill ≡ illFormed s ⌝ }
     requires { ⌜ ok ≡ argumentsOk code a b ⌝ }
-    ensures { λ r. ⌜ r ≡ outcomeOf (beginDef s code a b) ⌝ }
+    ensures { λ r. ⌜ Reaches r (beginDef s code a b) ⌝ }
 {
     if ill {
         broken(s)
@@ -82,16 +88,22 @@ fn begin_if(ill: bool, ok: bool, s: Session, code: u8, a: u32, b: u16) -> Outcom
     }
 }
 
-// A call, by its code and arguments.
-pub fn begin(s: Session, code: u8, a: u32, b: u16) -> Outcome
-    ensures { λ r. ⌜ r ≡ outcomeOf (beginDef s code a b) ⌝ }
+pub fn begin_course(s: Session, code: u8, a: u32, b: u16) -> Course
+    ensures { λ r. ⌜ Reaches r (beginDef s code a b) ⌝ }
 {
     begin_if(ill_formed(s), arguments_ok(code, a, b), s, code, a, b)
 }
 
-fn refuse_if(ill: bool, s: Session) -> Outcome
+// A call, by its code and arguments.
+pub fn begin(s: Session, code: u8, a: u32, b: u16) -> Outcome
+    ensures { λ r. ⌜ r ≡ outcomeOf (beginDef s code a b) ⌝ }
+{
+    go(begin_course(s, code, a, b))
+}
+
+fn refuse_if(ill: bool, s: Session) -> Course
     requires { ⌜ ill ≡ illFormed s ⌝ }
-    ensures { λ r. ⌜ r ≡ outcomeOf (otherDef s) ⌝ }
+    ensures { λ r. ⌜ Reaches r (otherDef s) ⌝ }
 {
     if ill {
         broken(s)
@@ -101,8 +113,8 @@ fn refuse_if(ill: bool, s: Session) -> Outcome
 }
 
 // A record that is neither a call nor a reply.
-pub fn refuse_record(s: Session) -> Outcome
-    ensures { λ r. ⌜ r ≡ outcomeOf (otherDef s) ⌝ }
+pub fn other_course(s: Session) -> Course
+    ensures { λ r. ⌜ Reaches r (otherDef s) ⌝ }
 {
     refuse_if(ill_formed(s), s)
 }

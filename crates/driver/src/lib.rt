@@ -5,9 +5,11 @@ mod replies;
 ghost use mathlib.Core.Path.{_≡_};
 ghost use Rattle.session.specs.Machine.{freshSession};
 pub use begins::begin;
-pub use begins::refuse_record;
+pub use begins::begin_course;
+pub use begins::other_course;
 pub use replies::outstanding;
 pub use replies::reply;
+pub use replies::reply_course;
 use session::Driver;
 use session::Session;
 

@@ -1,17 +1,17 @@
 // A reply of the bus, and the transfer that a session has out.
 ghost use mathlib.Core.Path.{_≡_};
 ghost use mathlib.Core.Bool.{false};
-ghost use Prim.Native.Nat.{_<_};
-ghost use Rattle.session.specs.Calls.{programOf};
 ghost use Rattle.session.specs.Machine.{refused, broken, illFormed, malformed, replyDef};
-ghost use Rattle.reactions.specs.Outcome.{outcomeOf};
-ghost use Rattle.driver.specs.Replies.{outstandingOf};
 ghost use Rattle.checks.specs.Sound.{strayIn};
-ghost use Rattle.driver.specs.Replies.{Taken, taking, replying};
+ghost use Rattle.reactions.specs.Outcome.{outcomeOf};
+ghost use Rattle.reactions.specs.Reactions.{Taken, Reaches};
+ghost use Rattle.driver.specs.Replies.{taking, replying, outstandingOf};
 use checks::ill_formed;
 use checks::stray;
-use reactions::Given;
+use reactions::Course;
 use reactions::Outcome;
+use reactions::Way;
+use reactions::go;
 use reactions::no_transfer;
 use reactions::react;
 use reactions::transfer_of;
@@ -22,34 +22,30 @@ use session::Transfer;
 use steps::Shape;
 
 // A refusal keeps the session.
-pub fn refuse(x: Answer, s: Session) -> Outcome
-    ensures { λ r. ⌜ r ≡ outcomeOf (refused x s) ⌝ }
+pub fn refuse(x: Answer, s: Session) -> Course
+    ensures { λ r. ⌜ Reaches r (refused x s) ⌝ }
 {
-    let t = no_transfer();
-    Outcome {
-        given: Given::Refused(x),
-        transfer: t,
-        transfers: 0,
+    Course {
+        way: Way::Refused(x),
+        at: Instruction::Nowhere,
         session: s,
     }
 }
 
-pub fn broken(s: Session) -> Outcome
-    ensures { λ r. ⌜ r ≡ outcomeOf (broken s) ⌝ }
+pub fn broken(s: Session) -> Course
+    ensures { λ r. ⌜ Reaches r (broken s) ⌝ }
 {
-    let t = no_transfer();
-    Outcome {
-        given: Given::IllFormed,
-        transfer: t,
-        transfers: 0,
+    Course {
+        way: Way::IllFormed,
+        at: Instruction::Nowhere,
         session: s,
     }
 }
 
 // Unless it has stray bytes, a reply is taken.
-fn take(strays: bool, i: Instruction, x: Shape, s: Session, failure: u8, bytes: [u8; 6]) -> Outcome
+fn take(strays: bool, i: Instruction, x: Shape, s: Session, failure: u8, bytes: [u8; 6]) -> Course
     requires { ⌜ Taken i x s ⌝ }
-    ensures { λ r. ⌜ r ≡ outcomeOf (taking strays i s failure bytes) ⌝ }
+    ensures { λ r. ⌜ Reaches r (taking strays i s failure bytes) ⌝ }
 {
     if strays {
         refuse(Answer::StrayByte, s)
@@ -58,25 +54,25 @@ fn take(strays: bool, i: Instruction, x: Shape, s: Session, failure: u8, bytes: 
     }
 }
 
-fn take_at(i: Instruction, x: Shape, s: Session, failure: u8, bytes: [u8; 6]) -> Outcome
+fn take_at(i: Instruction, x: Shape, s: Session, failure: u8, bytes: [u8; 6]) -> Course
     requires { ⌜ Taken i x s ⌝ }
-    ensures { λ r. ⌜ r ≡ outcomeOf (taking (strayIn (x .reads) failure bytes) i s failure bytes) ⌝ }
+    ensures { λ r. ⌜ Reaches r (taking (strayIn (x .reads) failure bytes) i s failure bytes) ⌝ }
 {
     take(stray(x.reads, failure, bytes), i, x, s, failure, bytes)
 }
 
 // The reply to a session that waits and is well formed.
-fn reply_waiting(s: Session, failure: u8, bytes: [u8; 6]) -> Outcome
+fn reply_waiting(s: Session, failure: u8, bytes: [u8; 6]) -> Course
     requires { ⌜ malformed s ≡ false ⌝ }
-    ensures { λ r. ⌜ r ≡ outcomeOf (replying s failure bytes) ⌝ }
+    ensures { λ r. ⌜ Reaches r (replying s failure bytes) ⌝ }
 {
     let i = calls::instruction_at(s.code, s.step);
     take_at(i, steps::shape_of(i), s, failure, bytes)
 }
 
-fn reply_if(ill: bool, s: Session, failure: u8, bytes: [u8; 6]) -> Outcome
+fn reply_if(ill: bool, s: Session, failure: u8, bytes: [u8; 6]) -> Course
     requires { ⌜ ill ≡ illFormed s ⌝ }
-    ensures { λ r. ⌜ r ≡ outcomeOf (replyDef s failure bytes) ⌝ }
+    ensures { λ r. ⌜ Reaches r (replyDef s failure bytes) ⌝ }
 {
     if ill {
         broken(s)
@@ -87,11 +83,17 @@ fn reply_if(ill: bool, s: Session, failure: u8, bytes: [u8; 6]) -> Outcome
     }
 }
 
+pub fn reply_course(s: Session, failure: u8, bytes: [u8; 6]) -> Course
+    ensures { λ r. ⌜ Reaches r (replyDef s failure bytes) ⌝ }
+{
+    reply_if(ill_formed(s), s, failure, bytes)
+}
+
 // A reply: the failure code or 0, and six data bytes.
 pub fn reply(s: Session, failure: u8, bytes: [u8; 6]) -> Outcome
     ensures { λ r. ⌜ r ≡ outcomeOf (replyDef s failure bytes) ⌝ }
 {
-    reply_if(ill_formed(s), s, failure, bytes)
+    go(reply_course(s, failure, bytes))
 }
 
 fn outstanding_if(ill: bool, s: Session) -> Transfer

@@ -1,6 +1,6 @@
 -- What the code does to a session is what the machine does.
 use mathlib.Core.Path.{_≡_, refl, sym, _∙_, ap}
-use mathlib.Core.Bool.{Bool, true, false, cond}
+use mathlib.Core.Bool.{Bool, true, false, cond, _&&_}
 use mathlib.Core.List.{List}
 use Prim.Native.Nat.{ℕ, zero, suc, _+_, _≤_, _<_}
 use native.Mathlib.Numerals.{add-one}
@@ -14,7 +14,7 @@ use Rattle.session.specs.Bus.{Condition, detectorReady, statusReady, started, i
 use Rattle.session.specs.Instructions.{Final, success, failure, Verdict, onward, leap, stop, test, Op, write, read, wait, range, sendOf, readWins, reportOf}
 use Rattle.session.specs.Steps.{opOf}
 use Rattle.session.specs.Calls.{programOf}
-use Rattle.session.specs.Machine.{sent, contextOf, sending, giving, conclude, arrive, decide, react, toReply}
+use Rattle.session.specs.Machine.{Outcome as Result, sent, contextOf, sending, giving, conclude, arrive, decide, react, toReply}
 use Rattle.calls.specs.Calls.{callOf, programFor, instructionAt, stepsIn}
 use Rattle.calls.proofs.Programs.{program-named}
 use Rattle.steps.specs.declared.Kind.{Kind}
@@ -25,7 +25,10 @@ use Rattle.checks.specs.Sound.{Sound, limitOf}
 use Rattle.checks.proofs.Places.{at-step, past-end, written-fits}
 use Rattle.reactions.specs.declared.Way.{Way}
 use Rattle.reactions.specs.declared.Plan.{Plan}
-use Rattle.reactions.specs.Reactions.{keepFailure, keepGood, keptBy, wayOf, unlessFailed, reported, idling, waiting, decidedBy, wayAfter, arrivalAt, planOf, mostIn, ending, concluding, acting}
+use Rattle.reactions.specs.declared.Course.{Course}
+use Rattle.reactions.specs.declared.Outcome.{Outcome}
+use Rattle.reactions.specs.Outcome.{outcomeOf}
+use Rattle.reactions.specs.Reactions.{keepFailure, withFailure, keeps, keepIf, keptBy, wayOf, reported, idling, waiting, decides, decidedBy, waitWay, goodWay, failedWay, wayAfter, leads, arrivalAt, planOf, moves, SoundIf, mostIn, ending, concluding, acting, reached, Fit, Reaches}
 
 -- on to a step
 arrives : (k : ℕ) (s : Session) → acting (arrivalAt k s) s ≡ arrive (programOf (s .code)) k s
@@ -70,7 +73,7 @@ keptOn op s f bs = keptBy (shapeOf op .kind) (shapeOf op) s f bs
 pub reacts : (i : Instruction) (op : Op) (s : Session) (f : ℕ) (bs : List ℕ) → opOf i ≡ op
     → acting (planOf (wayAfter (shapeOf op .kind) op (shapeOf op) (keptOn op s f bs) f bs) i (keptOn op s f bs)) (keptOn op s f bs)
     ≡ react op (programOf (s .code)) s (toReply f bs)
-unfolding shapeOf keptBy keepGood keepFailure keeping ownOf wayAfter unlessFailed decidedBy reported limitOf planOf acting
+unfolding shapeOf keptBy keepIf keeps withFailure keepFailure keeping ownOf wayAfter goodWay decides waitWay failedWay decidedBy reported limitOf planOf acting
 reacts i (write reg bytes len over after) s zero bs e = goes-by (after (contextOf s)) over (suc (s .step)) i s
 reacts i (write reg bytes len over after) s (suc f) bs e = rw (nonzero f) refl
 reacts i (read reg len slot over after) s zero bs e =
@@ -102,20 +105,26 @@ pub record Same (s t : Session) : Type 0 where
   pub b : t .b ≡ s .b
   pub transfers : t .transfers ≡ s .transfers
 
-same-good : (x : Shape) (s : Session) (f : ℕ) (bs : List ℕ) → Same s (keepGood x s f bs)
-unfolding keepGood keeping
-same-good x s zero bs = record { code = refl; a = refl; b = refl; transfers = refl }
-same-good x s (suc f) bs = rw (nonzero f) (record { code = refl; a = refl; b = refl; transfers = refl })
+same-if : (on : Bool) (x : Shape) (s : Session) (bs : List ℕ) → Same s (keepIf on x s bs)
+unfolding keepIf keeping
+same-if true x s bs = record { code = refl; a = refl; b = refl; transfers = refl }
+same-if false x s bs = record { code = refl; a = refl; b = refl; transfers = refl }
+
+same-failure : (kind : Kind) (f : ℕ) (s : Session) → Same s (withFailure kind f s)
+unfolding withFailure keepFailure
+same-failure Kind.Write f s = record { code = refl; a = refl; b = refl; transfers = refl }
+same-failure Kind.Read f s = record { code = refl; a = refl; b = refl; transfers = refl }
+same-failure Kind.Detector f s = record { code = refl; a = refl; b = refl; transfers = refl }
+same-failure Kind.Status f s = record { code = refl; a = refl; b = refl; transfers = refl }
+same-failure Kind.Start f s = record { code = refl; a = refl; b = refl; transfers = refl }
+same-failure Kind.Range f s = record { code = refl; a = refl; b = refl; transfers = refl }
 
 pub same-kept : (kind : Kind) (x : Shape) (s : Session) (f : ℕ) (bs : List ℕ) → Same s (keptBy kind x s f bs)
-unfolding keptBy keepFailure
-same-kept Kind.Write x s f bs = record { code = refl; a = refl; b = refl; transfers = refl }
-same-kept Kind.Read x s f bs = same-good x s f bs
-same-kept Kind.Detector x s f bs = record { code = refl; a = refl; b = refl; transfers = refl }
-same-kept Kind.Status x s f bs = record { code = refl; a = refl; b = refl; transfers = refl }
-same-kept Kind.Start x s f bs = record { code = refl; a = refl; b = refl; transfers = refl }
-same-kept Kind.Range x s f bs =
-    let h = same-good x (keepFailure f s) f bs in record { code = h .code; a = h .a; b = h .b; transfers = h .transfers }
+unfolding keptBy
+same-kept kind x s f bs =
+    let p = same-failure kind f s in
+    let q = same-if (keeps kind && eqb f 0) x (withFailure kind f s) bs in
+    record { code = q .code ∙ p .code; a = q .a ∙ p .a; b = q .b ∙ p .b; transfers = q .transfers ∙ p .transfers }
 
 pub sound-same : (s t : Session) → Sound s → Same s t → Sound t
 sound-same s t h e = record { arguments = rw (e .code, e .a, e .b) (h .arguments); transfers = rw (e .transfers) (h .transfers) }
@@ -129,18 +138,37 @@ plan-at k s h u = at (ltb k (stepsIn (s .code)))
     at true = written-fits (s .code) (s .a) (s .b) (h .arguments) k
     at false = u
 
-pub plan-fits : (w : Way) (i : Instruction) (s : Session) → Sound s → s .a ≤ mostAt i → s .a ≤ 4294967295 → s .a ≤ mostIn (planOf w i s)
-unfolding planOf mostIn
-plan-fits (Way.To k) i s h m u = plan-at k s h u
+pub plan-fits : (w : Way) (i : Instruction) (s : Session) → SoundIf (leads w) s → s .a ≤ mostAt i → s .a ≤ 4294967295 → s .a ≤ mostIn (planOf w i s)
+unfolding planOf mostIn leads
+plan-fits (Way.To k) i s h m u = plan-at k s (h refl) u
 plan-fits (Way.Again n) i s h m u = m
 plan-fits (Way.Out x) i s h m u = u
+plan-fits (Way.Refused x) i s h m u = u
+plan-fits Way.IllFormed i s h m u = u
+
+-- what is known of the session for a way is known for its plan
+pub plan-sound : (w : Way) (i : Instruction) (s : Session) → SoundIf (leads w) s → SoundIf (moves (planOf w i s)) s
+unfolding planOf moves leads
+plan-sound (Way.To k) i s h e = h refl
+plan-sound (Way.Again n) i s h e = h refl
+plan-sound (Way.Out x) i s h e = h refl
+plan-sound (Way.Refused x) i s h e = h e
+plan-sound Way.IllFormed i s h e = h e
 
 -- the pieces that single functions cite
 pub send-fits : (x : Plan) (i : Instruction) (k idle a : ℕ) → x ≡ Plan.Send i k idle → a ≤ mostIn x → a ≤ mostAt i
 unfolding mostIn
 send-fits x i k idle a e h = rw e at h
 
-pub ruleset fitting = (send-fits)
+pub send-sound : (x : Plan) (i : Instruction) (k idle : ℕ) (s : Session) → x ≡ Plan.Send i k idle → SoundIf (moves x) s → Sound s
+unfolding moves
+send-sound x i k idle s e h = h (rw e refl)
+
+pub end-sound : (x : Plan) (s : Session) → x ≡ Plan.End → SoundIf (moves x) s → Sound s
+unfolding moves
+end-sound x s e h = h (rw e refl)
+
+pub ruleset fitting = (send-fits, send-sound, end-sound)
 
 pub idles : (idle limit : ℕ) → idle + 1 < limit → Way.Again (idle + 1) ≡ idling idle limit
 unfolding idling
@@ -156,3 +184,11 @@ report-none code failed e h n = sym (rw (h, n) refl)
 pub report-read : (code failed e : ℕ) → code ≡ 6 → (failed ≡ 0 → ⊥) → failed ≡ reportOf (readWins code) failed e
 report-read code zero e h n = absurd (n refl)
 report-read code (suc k) e h n = sym (rw h refl)
+
+-- a course to what is the same
+pub reaches-as : {c : Course} {o p : Result} → Reaches c o → o ≡ p → Reaches c p
+reaches-as h e = record { fit = h .fit; result = h .result ∙ e }
+
+-- the outcome of a course that was gone
+pub gone : {c : Course} {o : Result} {r : Outcome} → Reaches c o → r ≡ outcomeOf (reached c) → r ≡ outcomeOf o
+gone h e = e ∙ ap outcomeOf (h .result)

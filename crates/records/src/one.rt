@@ -4,7 +4,9 @@ ghost use Prim.Native.Nat.{_+_, _*_};
 ghost use lib.ListN.{getD};
 ghost use Rattle.session.specs.Records.{stepDef};
 ghost use Rattle.reactions.specs.Outcome.{outcomeOf};
+ghost use Rattle.reactions.specs.Reactions.{Reaches};
 ghost use Rattle.records.specs.Records.{recordIn, recordAt};
+use reactions::Course;
 use reactions::Outcome;
 use session::Session;
 
@@ -50,18 +52,18 @@ pub fn record_at(bytes: &[u8], at: usize) -> [u8; 8]
 }
 
 // A call is 01, its code, A and B; a reply is 02, its failure code and six data bytes.
-pub fn step(s: Session, record: [u8; 8]) -> Outcome
-    ensures { λ r. ⌜ r ≡ outcomeOf (stepDef s (recordIn «record»)) ⌝ }
+fn course_of(s: Session, record: [u8; 8]) -> Course
+    ensures { λ r. ⌜ Reaches r (stepDef s (recordIn «record»)) ⌝ }
 {
     if record[0] == 1 {
-        driver::begin(
+        driver::begin_course(
             s,
             record[1],
             long(record[2], record[3], record[4], record[5]),
             word(record[6], record[7]),
         )
     } else if record[0] == 2 {
-        driver::reply(
+        driver::reply_course(
             s,
             record[1],
             [
@@ -74,6 +76,12 @@ pub fn step(s: Session, record: [u8; 8]) -> Outcome
             ],
         )
     } else {
-        driver::refuse_record(s)
+        driver::other_course(s)
     }
+}
+
+pub fn step(s: Session, record: [u8; 8]) -> Outcome
+    ensures { λ r. ⌜ r ≡ outcomeOf (stepDef s (recordIn «record»)) ⌝ }
+{
+    reactions::go(course_of(s, record))
 }

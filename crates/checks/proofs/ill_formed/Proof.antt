@@ -1,19 +1,18 @@
 -- `checks::ill_formed` meets its contract.
+use mathlib.Core.Path.{_∙_, refl, sym}
 use borrow.Author.Needs.{needs}
+use borrow.Author.Tests.{ne-eqb}
 use Rattle.checks.proofs.ill_formed.Statement.{statement}
 use Rattle.checks.proofs.ill_formed.Tie as tie
-
-negated-requires : tie.Need-negated-requires
-negated-requires c κs = search needs
 
 malformed-requires : tie.Need-malformed-requires
 malformed-requires c κs = search needs
 
-both-requires : tie.Need-both-requires
-both-requires c κs = search needs
-
 returns : tie.Need-returns
-returns c = rw (c .before .before .negated .ensures, c .before .malformed .ensures) at (c .both .ensures)
+returns c = sym (rw (c .if1 .taken) refl)
+
+returns-2 : tie.Need-returns-2
+returns-2 c = c .malformed .ensures ∙ sym (rw (ne-eqb (c .before .before .before .args .s .code) 0 (c .before .if1 .left)) refl)
 
 pub ill-formed-spec : {M : Type 1} → statement M
-ill-formed-spec = tie.close (tie.spec negated-requires malformed-requires both-requires returns)
+ill-formed-spec = tie.close (tie.spec malformed-requires returns returns-2)

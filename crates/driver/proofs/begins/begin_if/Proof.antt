@@ -1,7 +1,7 @@
 -- `driver::begins::begin_if` meets its contract.
-use mathlib.Core.Path.{_∙_, ap, sym}
+use mathlib.Core.Path.{_∙_, sym}
 use borrow.Author.Needs.{needs}
-use Rattle.reactions.specs.Outcome.{outcomeOf}
+use Rattle.reactions.proofs.Meets.{reaches-as}
 use Rattle.driver.proofs.Meets.{begin-broken, begin-13, begin-10, begin-on, sound-begun}
 use Rattle.driver.proofs.begins.begin_if.Statement.{statement}
 use Rattle.driver.proofs.begins.begin_if.Tie as tie
@@ -27,19 +27,19 @@ refuse-requires-2 c κs = search needs
 
 returns : tie.Need-returns
 returns c = let a = c .before .before .args in
-    c .broken .ensures ∙ ap outcomeOf (begin-broken (a .s) (a .code) (a .a) (a .b) (sym (c .before .before .pre .0) ∙ c .before .if1 .taken))
+    reaches-as (c .broken .ensures) (begin-broken (a .s) (a .code) (a .a) (a .b) (sym (c .before .before .pre .0) ∙ c .before .if1 .taken))
 
 returns-2 : tie.Need-returns-2
 returns-2 c = let a = c .before .before .before .before .before .before .before .before .args in
-    (rw (c .before .before .not-up .ensures, c .before .begun .ensures) at (c .begin-up .ensures)) ∙ ap outcomeOf (begin-on (a .s) (a .code) (a .a) (a .b) (sym (c .before .before .before .before .before .before .before .before .pre .0) ∙ c .before .before .before .before .before .before .before .if1 .left) (sym (c .before .before .before .before .before .before .before .before .pre .1) ∙ c .before .before .before .before .before .before .if2 .taken) (search needs))
+    reaches-as (rw (c .before .before .not-up .ensures, c .before .begun .ensures) at (c .begin-up .ensures)) (begin-on (a .s) (a .code) (a .a) (a .b) (sym (c .before .before .before .before .before .before .before .before .pre .0) ∙ c .before .before .before .before .before .before .before .if1 .left) (sym (c .before .before .before .before .before .before .before .before .pre .1) ∙ c .before .before .before .before .before .before .if2 .taken) (search needs))
 
 returns-3 : tie.Need-returns-3
 returns-3 c = let a = c .before .before .before .before .before .args in
-    c .refuse .ensures ∙ ap outcomeOf (begin-10 (a .s) (a .code) (a .a) (a .b) (sym (c .before .before .before .before .before .pre .0) ∙ c .before .before .before .before .if1 .left) (sym (c .before .before .before .before .before .pre .1) ∙ c .before .before .before .if2 .taken) (c .before .if3 .left))
+    reaches-as (c .refuse .ensures) (begin-10 (a .s) (a .code) (a .a) (a .b) (sym (c .before .before .before .before .before .pre .0) ∙ c .before .before .before .before .if1 .left) (sym (c .before .before .before .before .before .pre .1) ∙ c .before .before .before .if2 .taken) (c .before .if3 .left))
 
 returns-4 : tie.Need-returns-4
 returns-4 c = let a = c .before .before .before .args in
-    c .refuse2 .ensures ∙ ap outcomeOf (begin-13 (a .s) (a .code) (a .a) (a .b) (sym (c .before .before .before .pre .0) ∙ c .before .before .if1 .left) (sym (c .before .before .before .pre .1) ∙ c .before .if2 .left))
+    reaches-as (c .refuse2 .ensures) (begin-13 (a .s) (a .code) (a .a) (a .b) (sym (c .before .before .before .pre .0) ∙ c .before .before .if1 .left) (sym (c .before .before .before .pre .1) ∙ c .before .if2 .left))
 
 pub begin-if-spec : {M : Type 1} → statement M
 begin-if-spec =

@@ -1,8 +1,8 @@
 -- `driver::begins::begin_up` meets its contract.
-use mathlib.Core.Path.{_∙_, ap, refl}
+use mathlib.Core.Path.{refl}
 use borrow.Author.Needs.{needs}
 use Rattle.clock.proofs.Branches.{then, other}
-use Rattle.reactions.specs.Outcome.{outcomeOf}
+use Rattle.reactions.proofs.Meets.{reaches-as}
 use Rattle.driver.specs.Replies.{beginning}
 use Rattle.driver.proofs.begins.begin_up.Statement.{statement}
 use Rattle.driver.proofs.begins.begin_up.Tie as tie
@@ -15,11 +15,11 @@ launch-requires c κs = search needs
 
 returns : tie.Need-returns
 unfolding beginning
-returns c = c .refuse .ensures ∙ ap outcomeOf (then _ (c .before .if1 .taken) refl)
+returns c = reaches-as (c .refuse .ensures) (then _ (c .before .if1 .taken) refl)
 
 returns-2 : tie.Need-returns-2
 unfolding beginning
-returns-2 c = c .launch .ensures ∙ ap outcomeOf (other _ (c .before .if1 .left) refl)
+returns-2 c = reaches-as (c .launch .ensures) (other _ (c .before .if1 .left) refl)
 
 pub begin-up-spec : {M : Type 1} → statement M
 begin-up-spec = tie.close (tie.spec refuse-requires launch-requires returns returns-2)

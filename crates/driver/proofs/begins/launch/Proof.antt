@@ -1,5 +1,5 @@
 -- `driver::begins::launch` meets its contract.
-use mathlib.Core.Path.{_∙_, ap, sym, subst}
+use mathlib.Core.Path.{sym, subst}
 use Prim.Native.Nat.{_≤_}
 use native.Mathlib.Omega.{arith}
 use borrow.Author.Needs.{needs}
@@ -7,7 +7,7 @@ use Rattle.calls.specs.declared.Call.{Call}
 use Rattle.steps.specs.Ends.{mostFor}
 use Rattle.steps.specs.Steps.{mostAt}
 use Rattle.checks.proofs.Places.{stored-fits}
-use Rattle.reactions.specs.Outcome.{outcomeOf}
+use Rattle.reactions.specs.Reactions.{reached}
 use Rattle.driver.proofs.Meets.{launches}
 use Rattle.driver.proofs.begins.launch.Statement.{statement}
 use Rattle.driver.proofs.begins.launch.Tie as tie
@@ -22,13 +22,14 @@ entry-requires c κs = let s = c .before .args .s in
 way-of-requires : tie.Need-way-of-requires
 way-of-requires c κs = search needs
 
-go-requires : tie.Need-go-requires
-unfolding mostAt
-go-requires c κs = (c .before .before .before .pre, omega arith)
-
 returns : tie.Need-returns
-returns c = (rw (c .before .way-of .ensures, c .before .before .entry .ensures, c .before .before .before .call-of .ensures) at (c .go .ensures)) ∙ ap outcomeOf (launches (c .before .before .before .before .args .s))
+unfolding mostAt reached
+returns c =
+    let s = c .before .before .before .args .s in
+    record {
+      fit = record { sound = λ _. c .before .before .before .pre; fits = omega arith };
+      result = rw (c .way-of .ensures, c .before .entry .ensures, c .before .before .call-of .ensures) (launches s);
+    }
 
 pub launch-spec : {M : Type 1} → statement M
-launch-spec =
-    tie.close (tie.spec call-of-requires entry-requires way-of-requires go-requires returns)
+launch-spec = tie.close (tie.spec call-of-requires entry-requires way-of-requires returns)

@@ -1,16 +1,15 @@
 -- `driver::replies::refuse` meets its contract.
 use mathlib.Core.Path.{refl}
-use borrow.Author.Needs.{needs}
-use Rattle.reactions.specs.Outcome.{outcomeOf}
+use native.Mathlib.Omega.{arith}
+use Rattle.session.proofs.Facts.{untrue}
+use Rattle.steps.specs.Steps.{mostAt}
+use Rattle.reactions.specs.Reactions.{leads, planOf, acting, reached}
 use Rattle.driver.proofs.replies.refuse.Statement.{statement}
 use Rattle.driver.proofs.replies.refuse.Tie as tie
 
-no-transfer-requires : tie.Need-no-transfer-requires
-no-transfer-requires c κs = search needs
-
 returns : tie.Need-returns
-unfolding outcomeOf
-returns c = rw (c .no-transfer .ensures) refl
+unfolding mostAt leads planOf acting reached
+returns c = record { fit = record { sound = λ e. untrue e; fits = omega arith }; result = refl }
 
 pub refuse-spec : {M : Type 1} → statement M
-refuse-spec = tie.close (tie.spec no-transfer-requires returns)
+refuse-spec = tie.close (tie.spec returns)

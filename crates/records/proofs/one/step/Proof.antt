@@ -1,111 +1,17 @@
 -- `records::one::step` meets its contract.
-use mathlib.Core.Path.{_∙_, ap}
 use borrow.Author.Needs.{needs}
-use Rattle.reactions.specs.Outcome.{outcomeOf}
-use Rattle.records.proofs.ByKind.{step-call, step-reply, step-other}
+use Rattle.reactions.proofs.Meets.{gone}
 use Rattle.records.proofs.one.step.Statement.{statement}
 use Rattle.records.proofs.one.step.Tie as tie
 
-array-read-if1 : tie.Need-array-read-if1
-array-read-if1 c = search needs
+course-of-requires : tie.Need-course-of-requires
+course-of-requires c κs = search needs
 
-array-read-begin : tie.Need-array-read-begin
-array-read-begin c = search needs
-
-array-read-long : tie.Need-array-read-long
-array-read-long c = search needs
-
-array-read-long-2 : tie.Need-array-read-long-2
-array-read-long-2 c = search needs
-
-array-read-long-3 : tie.Need-array-read-long-3
-array-read-long-3 c = search needs
-
-array-read-long-4 : tie.Need-array-read-long-4
-array-read-long-4 c = search needs
-
-long-requires : tie.Need-long-requires
-long-requires c κs = search needs
-
-array-read-word : tie.Need-array-read-word
-array-read-word c = search needs
-
-array-read-word-2 : tie.Need-array-read-word-2
-array-read-word-2 c = search needs
-
-word-requires : tie.Need-word-requires
-word-requires c κs = search needs
-
-begin-requires : tie.Need-begin-requires
-begin-requires c κs = search needs
-
-array-read-if2 : tie.Need-array-read-if2
-array-read-if2 c = search needs
-
-array-read-reply : tie.Need-array-read-reply
-array-read-reply c = search needs
-
-array-read-t42 : tie.Need-array-read-t42
-array-read-t42 c = search needs
-
-array-read-t45 : tie.Need-array-read-t45
-array-read-t45 c = search needs
-
-array-read-t48 : tie.Need-array-read-t48
-array-read-t48 c = search needs
-
-array-read-t51 : tie.Need-array-read-t51
-array-read-t51 c = search needs
-
-array-read-t54 : tie.Need-array-read-t54
-array-read-t54 c = search needs
-
-array-read-t57 : tie.Need-array-read-t57
-array-read-t57 c = search needs
-
-reply-requires : tie.Need-reply-requires
-reply-requires c κs = search needs
-
-refuse-record-requires : tie.Need-refuse-record-requires
-refuse-record-requires c κs = search needs
+go-requires : tie.Need-go-requires
+go-requires c κs = c .course-of .ensures .fit
 
 returns : tie.Need-returns
-returns c = let a = c .before .before .before .before .args in
-    (rw (c .before .before .long .ensures, c .before .word .ensures) at (c .begin .ensures)) ∙ ap outcomeOf (step-call (a .s) (a .t2) (c .before .before .before .if1 .taken))
-
-returns-2 : tie.Need-returns-2
-returns-2 c = let a = c .before .before .before .args in
-    c .reply .ensures ∙ ap outcomeOf (step-reply (a .s) (a .t2) (c .before .before .if1 .left) (c .before .if2 .taken))
-
-returns-3 : tie.Need-returns-3
-returns-3 c = let a = c .before .before .before .args in
-    c .refuse-record .ensures ∙ ap outcomeOf (step-other (a .s) (a .t2) (c .before .before .if1 .left) (c .before .if2 .left))
+returns c = gone (c .before .course-of .ensures) (c .go .ensures)
 
 pub step-spec : {M : Type 1} → statement M
-step-spec =
-    tie.close
-    (tie.spec
-    array-read-if1
-    array-read-begin
-    array-read-long
-    array-read-long-2
-    array-read-long-3
-    array-read-long-4
-    long-requires
-    array-read-word
-    array-read-word-2
-    word-requires
-    begin-requires
-    array-read-if2
-    array-read-reply
-    array-read-t42
-    array-read-t45
-    array-read-t48
-    array-read-t51
-    array-read-t54
-    array-read-t57
-    reply-requires
-    refuse-record-requires
-    returns
-    returns-2
-    returns-3)
+step-spec = tie.close (tie.spec course-of-requires go-requires returns)
