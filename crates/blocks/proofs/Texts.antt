@@ -3,8 +3,8 @@ use mathlib.Core.Path.{_≡_, refl, sym, ap, _∙_}
 use mathlib.Core.List.{List, [], _∷_, _++_, append-assoc, append-nil}
 use Prim.Native.Nat.{ℕ, _+_, _*_, _-_, _≤_, _<_, zero-le}
 use native.Mathlib.Omega.{arith}
-use lib.ListN.{length, take, drop, length-take, length-drop, length-append, take-append-drop}
-use lib.Seq.{length-take-le, take-at, drop-at, drop-drop}
+use lib.ListN.{length, take, drop, length-drop, length-append, take-append-drop}
+use lib.Seq.{sets-eq, length-take-le, take-at, drop-at, drop-drop}
 use Rattle.session.specs.declared.Session.{Session}
 use Rattle.session.specs.Records.{recordsOf, stepDef}
 use Rattle.records.specs.Records.{recordIn, recordAt}
@@ -25,10 +25,6 @@ shows-outcomes x o e = sym (rw e refl)
 pub shows-fields : (x : Show) (o : Outcome) → x ≡ Show.Fields → fieldsLine (o .session .driver) ≡ lineOf x o
 unfolding lineOf
 shows-fields x o e = sym (rw e refl)
-
--- the first bytes of a list are at most so many
-pub taken-le : (n : ℕ) (l : List ℕ) → length (take n l) ≤ n
-taken-le n l = rw (length-take n l) (omega arith)
 
 -- the session of an outcome
 pub kept-session : (x : Result) → outcomeOf x .session ≡ sessionOf x
@@ -72,10 +68,10 @@ module _ (show : Show) (bytes out₀ : List ℕ) (p₀ : Printout) (out : List �
   unfolding linesOf sessionPast
   goes-on out′ p′ m =
       let line = lineOf show (outcomeOf (stepDef (p .session) (recordIn (recordAt bytes i)))) in
-      let n = m .line .next in
+      let n = m .line .ends in
       let short : p′ .count ≤ length out = omega (arith, m .short, line-fits) in
       let front : length (take (p .count) out ++ line) ≡ p′ .count = length-append (take (p .count) out) line ∙ rw (length-take-le (p .count) out (omega (arith, line-fits))) (sym n) in
-      let shape : out′ ≡ (take (p .count) out ++ line) ++ drop (p′ .count) out = m .line .text ∙ rw n refl in
+      let shape : out′ ≡ (take (p .count) out ++ line) ++ drop (p′ .count) out = m .line .puts ∙ sets-eq line out (p .count) (omega (arith, n, short)) ∙ rw n refl in
       record {
         within = eight-left;
         room = g .room;

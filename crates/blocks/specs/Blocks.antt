@@ -2,7 +2,7 @@
 use mathlib.Core.Path.{_≡_}
 use mathlib.Core.List.{List, [], _∷_, _++_}
 use Prim.Native.Nat.{ℕ, _+_, _*_, _≤_, _<_}
-use lib.ListN.{length, take, drop}
+use lib.ListN.{length, drop}
 use Rattle.session.specs.declared.Session.{Session}
 use Rattle.session.specs.Records.{Record, recordsOf, stepDef}
 use Rattle.session.specs.History.{sessionOf}
@@ -10,6 +10,7 @@ use Rattle.reactions.specs.declared.Outcome.{Outcome}
 use Rattle.reactions.specs.Outcome.{outcomeOf}
 use Rattle.records.specs.Records.{recordIn}
 use Rattle.lines.specs.Lines.{outcomeLine, fieldsLine}
+use Rattle.lines.specs.Put.{Put}
 use Rattle.blocks.specs.declared.Show.{Show}
 use Rattle.blocks.specs.declared.Printout.{Printout}
 
@@ -27,14 +28,9 @@ unfoldable pub sessionPast : Session → List Record → Session
 sessionPast s [] = s
 sessionPast s (r ∷ rs) = sessionPast (sessionOf (stepDef s r)) rs
 
--- a text goes into a list from a place on, and all else is as it was
-pub record Added (was : List ℕ) (at : ℕ) (line now : List ℕ) (after : ℕ) : Type 0 where
-  pub text : now ≡ take at was ++ line ++ drop (at + length line) was
-  pub next : after ≡ at + length line
-
 -- the line of one record, and the session after it
 pub record OneMore (show : Show) (p : Printout) (bytes out out′ : List ℕ) (r : Printout) : Type 0 where
-  pub line : Added out (p .count) (lineOf show (outcomeOf (stepDef (p .session) (recordIn bytes)))) out′ (r .count)
+  pub line : Put out (p .count) (lineOf show (outcomeOf (stepDef (p .session) (recordIn bytes)))) out′ (r .count)
   pub short : r .count ≤ p .count + 32
   pub session : r .session ≡ sessionOf (stepDef (p .session) (recordIn bytes))
 

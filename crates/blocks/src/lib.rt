@@ -1,10 +1,9 @@
 // The lines of a block of records, as one text.
 ghost use mathlib.Core.Path.{_≡_};
 ghost use Prim.Native.Nat.{_+_, _*_, _≤_};
-ghost use lib.ListN.{length, take};
-ghost use Rattle.lines.specs.Lines.{textOf};
-ghost use Rattle.blocks.specs.Blocks.{Added, lineOf, OneMore, Printed, Prints};
-use lines::Line;
+ghost use lib.ListN.{length};
+ghost use Rattle.lines.specs.Put.{PutLine};
+ghost use Rattle.blocks.specs.Blocks.{lineOf, OneMore, Printed, Prints};
 use reactions::Outcome;
 use session::Session;
 
@@ -20,29 +19,16 @@ pub struct Printout {
     pub count: usize,
 }
 
-fn line_of(show: Show, o: Outcome) -> Line
-    ensures { λ r. ⌜ (textOf r ≡ lineOf show o) × (r .count ≤ 32) ⌝ }
+// The line of a record goes into the text from `at` on; the place after it is returned.
+fn put_line(show: Show, o: Outcome, out: &mut [u8], at: usize) -> usize
+    ensures { λ r. ⌜ PutLine (now (out .entry)) at (lineOf show o) (now (out .exit)) r ⌝ }
 {
     let session = o.session;
     let driver = session.driver;
     match show {
-        Show::Outcomes => lines::outcome_line(o),
-        Show::Fields => lines::fields_line(driver),
+        Show::Outcomes => lines::outcome_line(out, at, o),
+        Show::Fields => lines::fields_line(out, at, driver),
     }
-}
-
-// The first `count` bytes go into the text from `at` on; the place after them is returned.
-fn put(out: &mut [u8], at: usize, bytes: [u8; 32], count: usize) -> usize
-    requires { ⌜ at + 32 ≤ length (now out) ⌝ }
-    requires { ⌜ count ≤ 32 ⌝ }
-    ensures { λ r. ⌜ Added (now (out .entry)) at (take count bytes) (now (out .exit)) r ⌝ }
-{
-    let mut k = 0;
-    while k < count {
-        out[at + k] = bytes[k];
-        k += 1;
-    }
-    at + count
 }
 
 // One record more: its line goes into the text.
@@ -53,9 +39,7 @@ fn print_record(show: Show, p: Printout, record: [u8; 8], out: &mut [u8]) -> Pri
     let session = p.session;
     let o = records::step(session, record);
     let next = o.session;
-    let line = line_of(show, o);
-    let bytes = line.bytes;
-    let count = put(out, p.count, bytes, line.count);
+    let count = put_line(show, o, out, p.count);
     Printout {
         session: next,
         count,

@@ -1,12 +1,15 @@
--- What is put after what was put before it, and the text that stands there at the end.
-use mathlib.Core.Path.{_≡_, refl, ap, _∙_}
+-- What is put after what was put before it, and a line where there is room for it.
+use mathlib.Core.Path.{_≡_, refl, sym, ap, _∙_}
+use mathlib.Core.Bool.{true, false}
 use mathlib.Core.List.{List, [], _∷_, _++_}
 use Prim.Native.Nat.{ℕ, suc, _+_, _≤_}
 use native.Mathlib.Nat.{add-zero}
 use native.Mathlib.Omega.{arith}
-use lib.ListN.{length, take, drop, length-append}
-use lib.Seq.{sets, sets-eq, take-at}
-use Rattle.lines.specs.Put.{Put}
+use lib.Dec.{leb}
+use lib.ListN.{length, length-append}
+use lib.Seq.{sets}
+use borrow.Author.Tests.{leb-true, leb-false}
+use Rattle.lines.specs.Put.{Put, PutLine}
 
 sets-append : (l : List ℕ) (i : ℕ) (u v : List ℕ) → sets (sets l i u) (i + length u) v ≡ sets l i (u ++ v)
 sets-append l i [] v = rw add-zero refl
@@ -22,10 +25,14 @@ then {was} {bytes} {after} {s} {t} {at} {next} {end} p q =
       ends = rw length-append (omega arith);
     }
 
--- the whole text of a line
-pub reads : {was text bytes : List ℕ} {count : ℕ} → length was ≡ 32 → Put was 0 text bytes count → count ≤ 32
-    → (take count bytes ≡ text) × (count ≤ 32)
-reads {was} {text} {bytes} {count} e p h =
-    let l : length text ≡ count = omega arith in
-    let b : bytes ≡ text ++ drop (0 + length text) was = p .puts ∙ sets-eq text was 0 (omega arith) in
-    (rw b (take-at text _ count l), h)
+-- a line, by the test for its room
+pub roomy : {was text line : List ℕ} {at next : ℕ} → leb (at + 32) (length was) ≡ true → Put was at line text next × (next ≤ at + 32)
+    → PutLine was at line text next
+roomy {was} {text} {line} {at} e p = record { with-room = λ h. p; without = λ h. absurd (omega (arith, leb-true (at + 32) (length was) e, h)) }
+
+pub full : {was line : List ℕ} {at : ℕ} → leb (at + 32) (length was) ≡ false → PutLine was at line was at
+full {was} {line} {at} e =
+    record {
+      with-room = λ h. absurd (omega (arith, leb-false (at + 32) (length was) e, h));
+      without = λ h. record { puts = refl; ends = sym (add-zero at) };
+    }

@@ -4,14 +4,13 @@ use mathlib.Core.Bool.{Bool, cond}
 use mathlib.Core.List.{List, [], _∷_, _++_}
 use Prim.Native.Nat.{ℕ, zero, suc, _+_, _/_, _%_}
 use lib.Dec.{ltb}
-use lib.ListN.{take, getD}
+use lib.ListN.{getD}
 use Rattle.session.specs.declared.Answer.{Answer}
 use Rattle.session.specs.declared.Driver.{Driver}
 use Rattle.session.specs.declared.Transfer.{Transfer}
 use Rattle.session.specs.Bus.{bytesOf, numberOf, valuesOf}
 use Rattle.reactions.specs.declared.Given.{Given}
 use Rattle.reactions.specs.declared.Outcome.{Outcome}
-use Rattle.lines.specs.declared.Line.{Line}
 
 abbrev pub newline : ℕ
 newline = 10
@@ -87,7 +86,3 @@ givenLine Given.IllFormed t n = answerLine (numberOf Answer.IllFormedSession) 0 
 
 abbrev pub outcomeLine : Outcome → List ℕ
 outcomeLine o = givenLine (o .given) (o .transfer) (o .transfers)
-
--- what a line holds: its first `count` bytes
-abbrev pub textOf : Line → List ℕ
-textOf l = take (l .count) (l .bytes)

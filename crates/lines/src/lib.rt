@@ -1,10 +1,14 @@
-// The lines of text that transfers, answers and the driver's fields are printed as.
+// The lines of text that outcomes and the driver's fields are printed as. A line goes into a lent text from a place on, and the place after it is
+// returned. Where the text has less than 32 bytes from that place on, nothing is put: no line has more.
 mod digits;
 
 ghost use mathlib.Core.Path.{_≡_};
-ghost use Prim.Native.Nat.{_≤_};
+ghost use Prim.Native.Nat.{_+_, _≤_};
+ghost use lib.Dec.{leb};
+ghost use lib.ListN.{length};
 ghost use Rattle.session.specs.Bus.{numberOf};
-ghost use Rattle.lines.specs.Lines.{textOf, transferLine, answerLine, fieldsLine, outcomeLine, flag, valueOf};
+ghost use Rattle.lines.specs.Lines.{transferLine, answerLine, fieldsLine, outcomeLine, flag, valueOf};
+ghost use Rattle.lines.specs.Put.{Put, PutLine};
 use crate::digits::put_byte;
 use crate::digits::put_number;
 use crate::digits::put_pair;
@@ -15,12 +19,6 @@ use reactions::Outcome;
 use session::Answer;
 use session::Driver;
 use session::Transfer;
-
-// The first `count` bytes are the line, the newline among them.
-pub struct Line {
-    pub bytes: [u8; 32],
-    pub count: usize,
-}
 
 pub fn number_of(x: Answer) -> u8
     ensures { λ r. ⌜ r ≡ numberOf x ⌝ }
@@ -68,31 +66,43 @@ pub fn value_of(x: Answer) -> u32
     }
 }
 
-pub fn transfer_line(t: Transfer) -> Line
-    ensures { λ r. ⌜ (textOf r ≡ transferLine t) × (r .count ≤ 32) ⌝ }
+fn put_transfer(text: &mut [u8], at: usize, t: Transfer) -> usize
+    requires { ⌜ at + 32 ≤ length (now text) ⌝ }
+    ensures { λ r. ⌜ Put (now (text .entry)) at (transferLine t) (now (text .exit)) r × (r ≤ at + 32) ⌝ }
 {
     let written = t.written;
-    let mut bytes = [0u8; 32];
-    let mut at = put_byte(&mut bytes, 0, b'T');
-    at = put_byte(&mut bytes, at, b' ');
-    at = put_pair(&mut bytes, at, t.address);
-    at = put_byte(&mut bytes, at, b' ');
-    at = put_pairs(&mut bytes, at, written, t.count);
-    at = put_small(&mut bytes, at, t.reads);
-    at = put_byte(&mut bytes, at, b'\n');
-    Line { bytes, count: at }
+    let mut next = put_byte(text, at, b'T');
+    next = put_byte(text, next, b' ');
+    next = put_pair(text, next, t.address);
+    next = put_byte(text, next, b' ');
+    next = put_pairs(text, next, written, t.count);
+    next = put_small(text, next, t.reads);
+    put_byte(text, next, b'\n')
 }
 
-pub fn answer_line(number: u8, value: u32, transfers: u32) -> Line
-    ensures { λ r. ⌜ (textOf r ≡ answerLine number value transfers) × (r .count ≤ 32) ⌝ }
+fn put_answer(text: &mut [u8], at: usize, number: u8, value: u32, transfers: u32) -> usize
+    requires { ⌜ at + 32 ≤ length (now text) ⌝ }
+    ensures { λ r. ⌜ Put (now (text .entry)) at (answerLine number value transfers) (now (text .exit)) r × (r ≤ at + 32) ⌝ }
 {
-    let mut bytes = [0u8; 32];
-    let mut at = put_byte(&mut bytes, 0, b'A');
-    at = put_small(&mut bytes, at, number);
-    at = put_number(&mut bytes, at, value);
-    at = put_number(&mut bytes, at, transfers);
-    at = put_byte(&mut bytes, at, b'\n');
-    Line { bytes, count: at }
+    let mut next = put_byte(text, at, b'A');
+    next = put_small(text, next, number);
+    next = put_number(text, next, value);
+    next = put_number(text, next, transfers);
+    put_byte(text, next, b'\n')
+}
+
+fn put_outcome(text: &mut [u8], at: usize, o: Outcome) -> usize
+    requires { ⌜ at + 32 ≤ length (now text) ⌝ }
+    ensures { λ r. ⌜ Put (now (text .entry)) at (outcomeLine o) (now (text .exit)) r × (r ≤ at + 32) ⌝ }
+{
+    let given = o.given;
+    let transfer = o.transfer;
+    match given {
+        Given::Sent => put_transfer(text, at, transfer),
+        Given::Answered(x) => put_answer(text, at, number_of(x), value_of(x), o.transfers),
+        Given::Refused(x) => put_answer(text, at, number_of(x), 0, 0),
+        Given::IllFormed => put_answer(text, at, 15, 0, 0),
+    }
 }
 
 fn flag_of(up: bool) -> u8
@@ -101,28 +111,48 @@ fn flag_of(up: bool) -> u8
     if up { 1 } else { 0 }
 }
 
-pub fn fields_line(d: Driver) -> Line
-    ensures { λ r. ⌜ (textOf r ≡ fieldsLine d) × (r .count ≤ 32) ⌝ }
+fn put_fields(text: &mut [u8], at: usize, d: Driver) -> usize
+    requires { ⌜ at + 32 ≤ length (now text) ⌝ }
+    ensures { λ r. ⌜ Put (now (text .entry)) at (fieldsLine d) (now (text .exit)) r × (r ≤ at + 32) ⌝ }
 {
-    let mut bytes = [0u8; 32];
-    let mut at = put_byte(&mut bytes, 0, b'F');
-    at = put_small(&mut bytes, at, flag_of(d.up));
-    at = put_small(&mut bytes, at, d.address);
-    at = put_small(&mut bytes, at, d.stop);
-    at = put_number(&mut bytes, at, d.budget);
-    at = put_byte(&mut bytes, at, b'\n');
-    Line { bytes, count: at }
+    let mut next = put_byte(text, at, b'F');
+    next = put_small(text, next, flag_of(d.up));
+    next = put_small(text, next, d.address);
+    next = put_small(text, next, d.stop);
+    next = put_number(text, next, d.budget);
+    put_byte(text, next, b'\n')
 }
 
-pub fn outcome_line(o: Outcome) -> Line
-    ensures { λ r. ⌜ (textOf r ≡ outcomeLine o) × (r .count ≤ 32) ⌝ }
+fn has_room(length: usize, at: usize) -> bool
+    ensures { λ r. ⌜ r ≡ leb (at + 32) length ⌝ }
 {
-    let given = o.given;
-    let transfer = o.transfer;
-    match given {
-        Given::Sent => transfer_line(transfer),
-        Given::Answered(x) => answer_line(number_of(x), value_of(x), o.transfers),
-        Given::Refused(x) => answer_line(number_of(x), 0, 0),
-        Given::IllFormed => answer_line(15, 0, 0),
+    if length < 32 {
+        return false;
+    }
+    if length - 32 < at {
+        return false;
+    }
+    true
+}
+
+// What a record gave.
+pub fn outcome_line(text: &mut [u8], at: usize, o: Outcome) -> usize
+    ensures { λ r. ⌜ PutLine (now (text .entry)) at (outcomeLine o) (now (text .exit)) r ⌝ }
+{
+    if has_room(text.len(), at) {
+        put_outcome(text, at, o)
+    } else {
+        at
+    }
+}
+
+// The driver's fields.
+pub fn fields_line(text: &mut [u8], at: usize, d: Driver) -> usize
+    ensures { λ r. ⌜ PutLine (now (text .entry)) at (fieldsLine d) (now (text .exit)) r ⌝ }
+{
+    if has_room(text.len(), at) {
+        put_fields(text, at, d)
+    } else {
+        at
     }
 }

@@ -1,54 +1,25 @@
 -- `lines::fields_line` meets its contract.
-use mathlib.Core.Path.{refl}
-use native.Mathlib.Omega.{arith}
+use mathlib.Core.Path.{sym, _∙_}
 use borrow.Author.Needs.{needs}
-use Rattle.lines.specs.Lines.{fieldsLine}
-use Rattle.lines.proofs.Putting.{then, reads}
+use borrow.Author.Tests.{leb-true}
+use Rattle.lines.proofs.Putting.{roomy, full}
 use Rattle.lines.proofs.fields_line.Statement.{statement}
 use Rattle.lines.proofs.fields_line.Tie as tie
 
-put-byte-requires : tie.Need-put-byte-requires
-put-byte-requires c κs = search needs
+has-room-requires : tie.Need-has-room-requires
+has-room-requires c κs = search needs
 
-flag-of-requires : tie.Need-flag-of-requires
-flag-of-requires c κs = search needs
+put-fields-requires : tie.Need-put-fields-requires
+put-fields-requires c κs = leb-true _ _ (sym (c .before .before .has-room .ensures) ∙ c .before .if1 .taken)
 
-put-small-requires : tie.Need-put-small-requires
-put-small-requires c κs = search needs
-
-put-small-requires-2 : tie.Need-put-small-requires-2
-put-small-requires-2 c κs = search needs
-
-put-small-requires-3 : tie.Need-put-small-requires-3
-put-small-requires-3 c κs = search needs
-
-put-number-requires : tie.Need-put-number-requires
-put-number-requires c κs = search needs
-
-put-byte-requires-2 : tie.Need-put-byte-requires-2
-put-byte-requires-2 c κs = search needs
+same-length : tie.Need-same-length
+same-length c = search needs
 
 returns : tie.Need-returns
-unfolding fieldsLine
-returns c =
-    rw (← c .before .before .before .before .before .before .before .before .before .flag-of .ensures)
-    (reads refl
-    (then (c .before .before .before .before .before .before .before .before .before .before .before .put-byte .ensures)
-    (then (c .before .before .before .before .before .before .before .before .put-small .ensures .0)
-    (then (c .before .before .before .before .before .before .put-small2 .ensures .0)
-    (then (c .before .before .before .before .put-small3 .ensures .0)
-    (then (c .before .before .put-number .ensures .0) (c .put-byte2 .ensures))))))
-    (omega arith))
+returns c = roomy (sym (c .before .before .before .before .before .has-room .ensures) ∙ c .before .before .before .before .if1 .taken) (c .before .before .put-fields .ensures)
+
+returns-2 : tie.Need-returns-2
+returns-2 c = full (sym (c .before .has-room .ensures) ∙ c .if1 .left)
 
 pub fields-line-spec : {M : Type 1} → statement M
-fields-line-spec =
-    tie.close
-    (tie.spec
-    put-byte-requires
-    flag-of-requires
-    put-small-requires
-    put-small-requires-2
-    put-small-requires-3
-    put-number-requires
-    put-byte-requires-2
-    returns)
+fields-line-spec = tie.close (tie.spec has-room-requires put-fields-requires same-length returns returns-2)

@@ -37,12 +37,12 @@ module _ (t : ℕ) where
 
   put-byte-requires : put-decimal-lts.Need-put-byte-requires claims at put-decimal.Post
   put-byte-requires c κs =
-      let n = c .before .before .args .n in
+      let n = c .before .before .before .args .n in
       omega (arith, ap length (decimal-one n (omega arith)))
 
   put-decimal-requires : put-decimal-lts.Need-put-decimal-requires claims at put-decimal.Post
   put-decimal-requires c κs =
-      let n = c .before .before .args .n in
+      let n = c .before .before .before .args .n in
       (omega arith, omega (arith, length-more n (omega arith) (omega arith)))
 
   cast-put-byte-2 : put-decimal-lts.Need-cast-put-byte-2 claims at put-decimal.Post
@@ -53,18 +53,24 @@ module _ (t : ℕ) where
 
   put-byte-requires-2 : put-decimal-lts.Need-put-byte-requires-2 claims at put-decimal.Post
   put-byte-requires-2 c κs =
-      let n = c .before .before .before .before .args .n in
+      let n = c .before .before .before .before .before .before .before .args .n in
       omega (arith, length-more n (omega arith) (omega arith))
+
+  same-length : put-decimal-lts.Need-same-length claims at put-decimal.Post
+  same-length c = search needs
 
   returns : put-decimal-lts.Need-returns claims at put-decimal.Post
   returns c =
-      let n = c .before .before .before .args .n in
-      rw (decimal-one n (omega arith)) (c .put-byte .ensures)
+      let n = c .before .before .before .before .before .before .args .n in
+      rw (decimal-one n (omega arith)) (c .before .before .put-byte .ensures)
+
+  same-length-2 : put-decimal-lts.Need-same-length-2 claims at put-decimal.Post
+  same-length-2 c = search needs
 
   returns-2 : put-decimal-lts.Need-returns-2 claims at put-decimal.Post
   returns-2 c =
-      let n = c .before .before .before .before .before .args .n in
-      rw (decimal-more n (omega arith) (omega arith)) (then (c .before .before .put-decimal .ensures) (c .put-byte2 .ensures))
+      let n = c .before .before .before .before .before .before .before .before .before .before .args .n in
+      rw (decimal-more n (omega arith) (omega arith)) (then (c .before .before .before .before .before .before .put-decimal .ensures) (c .before .before .put-byte2 .ensures))
 
 pub +put-decimal-spec : {M : Type 1} → statement M
 +put-decimal-spec =
@@ -81,5 +87,7 @@ pub +put-decimal-spec : {M : Type 1} → statement M
     (cast-put-byte-2 t)
     (add-put-byte-2 t)
     (put-byte-requires-2 t)
+    (same-length t)
     (returns t)
+    (same-length-2 t)
     (returns-2 t)

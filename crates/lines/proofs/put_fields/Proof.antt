@@ -1,0 +1,57 @@
+-- `lines::put_fields` meets its contract.
+use native.Mathlib.Omega.{arith}
+use borrow.Author.Needs.{needs}
+use Rattle.lines.specs.Lines.{fieldsLine}
+use Rattle.lines.proofs.Putting.{then}
+use Rattle.lines.proofs.put_fields.Statement.{statement}
+use Rattle.lines.proofs.put_fields.Tie as tie
+
+put-byte-requires : tie.Need-put-byte-requires
+put-byte-requires c κs = search needs
+
+flag-of-requires : tie.Need-flag-of-requires
+flag-of-requires c κs = search needs
+
+put-small-requires : tie.Need-put-small-requires
+put-small-requires c κs = search needs
+
+put-small-requires-2 : tie.Need-put-small-requires-2
+put-small-requires-2 c κs = search needs
+
+put-small-requires-3 : tie.Need-put-small-requires-3
+put-small-requires-3 c κs = search needs
+
+put-number-requires : tie.Need-put-number-requires
+put-number-requires c κs = search needs
+
+put-byte-requires-2 : tie.Need-put-byte-requires-2
+put-byte-requires-2 c κs = search needs
+
+same-length : tie.Need-same-length
+same-length c = search needs
+
+returns : tie.Need-returns
+unfolding fieldsLine
+returns c =
+    rw (← c .before .before .before .before .before .before .before .before .before .before .before .before .before .before .before .before .before .before .before .flag-of .ensures) (
+      (then (c .before .before .before .before .before .before .before .before .before .before .before .before .before .before .before .before .before .before .before .before .before .before .before .put-byte .ensures)
+          (then (c .before .before .before .before .before .before .before .before .before .before .before .before .before .before .before .before .before .before .put-small .ensures .0)
+          (then (c .before .before .before .before .before .before .before .before .before .before .before .before .before .before .put-small2 .ensures .0)
+          (then (c .before .before .before .before .before .before .before .before .before .before .put-small3 .ensures .0)
+          (then (c .before .before .before .before .before .before .put-number .ensures .0) (c .before .before .put-byte2 .ensures)))))),
+      omega arith,
+    )
+
+pub put-fields-spec : {M : Type 1} → statement M
+put-fields-spec =
+    tie.close
+    (tie.spec
+    put-byte-requires
+    flag-of-requires
+    put-small-requires
+    put-small-requires-2
+    put-small-requires-3
+    put-number-requires
+    put-byte-requires-2
+    same-length
+    returns)
