@@ -16,7 +16,7 @@ use Rattle.session.specs.Steps.{opOf}
 use Rattle.session.specs.Calls.{opsOf, tuning, programs, programOf, topCode, ceilings, ceilingOf, greatest, greatestOf, argumentsOk}
 use Rattle.session.specs.Machine.{idleWrong, upWrong, malformed}
 use Rattle.session.proofs.Facts.{or-parts, both, untrue}
-use Rattle.session.proofs.Table.{by-code, below-pass, of-test}
+use Rattle.session.proofs.Table.{by-code, below-pass}
 use Rattle.session.proofs.Strays.{sound-step}
 use Rattle.calls.specs.Calls.{calls, callOf, stepOf, instructionAt, stepsIn}
 use Rattle.steps.specs.declared.Kind.{Kind}
@@ -152,21 +152,6 @@ step-sound s h = at (leb (stepsIn (s .code)) (s .step)) refl
 pub clean-failure : (f reads : ℕ) → (f ≡ 0 → ⊥) → 0 ≡ cleanFrom f reads
 clean-failure zero reads n = absurd (n refl)
 clean-failure (suc e) reads n = refl
-
--- one computed test over the calls: no instruction reads more than six bytes
-abbrev allShort : List Instruction → Bool
-allShort [] = true
-allShort (i ∷ l) = leb (shapeOf (opOf i) .reads) 6 && allShort l
-
-short-at : (l : List Instruction) (k : ℕ) → allShort l ≡ true → shapeOf (opOf (getD l k Instruction.Nowhere)) .reads ≤ 6
-unfolding shapeOf
-short-at [] k e = lit≤ tt
-short-at (i ∷ l) zero e = leb-true (shapeOf (opOf i) .reads) 6 (both (leb (shapeOf (opOf i) .reads) 6) (allShort l) e .0)
-short-at (i ∷ l) (suc k) e = short-at l k (both (leb (shapeOf (opOf i) .reads) 6) (allShort l) e .1)
-
-pub reads-short : (code k : ℕ) → shapeOf (opOf (instructionAt code k)) .reads ≤ 6
-unfolding instructionAt stepOf shapeOf programOf programs tuning
-reads-short code k = short-at (programOf code .steps) k (of-test (λ n p. allShort (p .steps)) (λ n. refl) refl code)
 
 -- no limit is 0
 over-none : (code : ℕ) (k : Kind) → leb (limitOf code k) 0 ≡ false

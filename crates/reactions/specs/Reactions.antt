@@ -176,7 +176,6 @@ pub record Taken (i : Instruction) (x : Shape) (s : Session) : Type 0 where
   pub sound : Sound s
   pub fits : s .a ≤ mostAt i
   pub shape : x ≡ shapeOf (opOf i)
-  pub short : x .reads ≤ 6
 
 -- what a course comes to
 unfoldable pub reached : Course → Result

@@ -1,6 +1,5 @@
 // What is kept of a reply.
 ghost use mathlib.Core.Path.{_≡_};
-ghost use Prim.Native.Nat.{_≤_};
 ghost use Rattle.reactions.specs.Reactions.{keepFailure, withFailure, keeps, keepIf, keptBy};
 use checks::both;
 use session::Session;
@@ -44,7 +43,6 @@ fn keeps(kind: Kind) -> bool
 }
 
 fn keep_if(on: bool, x: Shape, s: Session, bytes: [u8; 6]) -> Session
-    requires { ⌜ x .reads ≤ 6 ⌝ }
     ensures { λ r. ⌜ r ≡ keepIf on x s bytes ⌝ }
 {
     if on {
@@ -56,7 +54,6 @@ fn keep_if(on: bool, x: Shape, s: Session, bytes: [u8; 6]) -> Session
 
 // What is kept of a reply.
 pub fn kept_by(x: Shape, s: Session, failure: u8, bytes: [u8; 6]) -> Session
-    requires { ⌜ x .reads ≤ 6 ⌝ }
     ensures { λ r. ⌜ r ≡ keptBy (x .kind) x s failure bytes ⌝ }
 {
     let kind = x.kind;

@@ -1,21 +1,27 @@
 // What is kept of a reply.
 ghost use mathlib.Core.Path.{_≡_};
-ghost use Prim.Native.Nat.{_≤_};
+ghost use lib.ListN.{getD};
 ghost use Rattle.session.specs.Instructions.{bytesFrom, put};
 ghost use Rattle.steps.specs.Steps.{ownOf, keeping};
 use crate::values::budget_in;
 use session::Session;
 
+// A byte of a reply; past the sixth there is none.
+fn reply_byte(bytes: [u8; 6], i: usize) -> u8
+    ensures { λ r. ⌜ r ≡ getD bytes i 0 ⌝ }
+{
+    if i < 6 { bytes[i] } else { 0 }
+}
+
 // The first n bytes of a reply go to the slots from `slot` on; past the last slot nothing is kept.
 fn store_bytes(carried: [u8; 24], slot: u16, n: u8, bytes: [u8; 6]) -> [u8; 24]
-    requires { ⌜ n ≤ 6 ⌝ }
     ensures { λ r. ⌜ r ≡ put carried slot (bytesFrom 0 n bytes) ⌝ }
 {
     let mut next = carried;
     let mut k: usize = 0;
     while k < n as usize {
         let i = slot as usize + k;
-        let byte = bytes[k];
+        let byte = reply_byte(bytes, k);
         k += 1;
         if i < 24 {
             next[i] = byte;
@@ -36,7 +42,6 @@ fn own_budget(slot: u16, carried: [u8; 24], own: u32) -> u32
 }
 
 pub fn keep(slot: u16, n: u8, s: Session, bytes: [u8; 6]) -> Session
-    requires { ⌜ n ≤ 6 ⌝ }
     ensures { λ r. ⌜ r ≡ keeping slot n s bytes ⌝ }
 {
     let was = s.carried;

@@ -8,7 +8,7 @@ use Rattle.reactions.proofs.react.Statement.{statement}
 use Rattle.reactions.proofs.react.Tie as tie
 
 kept-by-requires : tie.Need-kept-by-requires
-kept-by-requires c κs = c .pre .short
+kept-by-requires c κs = search needs
 
 way-after-requires : tie.Need-way-after-requires
 way-after-requires c κs = search needs

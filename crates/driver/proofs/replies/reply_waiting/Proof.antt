@@ -6,7 +6,7 @@ use Rattle.session.specs.declared.Instruction.{Instruction}
 use Rattle.steps.specs.Steps.{mostAt}
 use Rattle.reactions.proofs.Meets.{reaches-as}
 use Rattle.driver.proofs.Meets.{takes}
-use Rattle.checks.proofs.Places.{written-fits, arguments-sound, well-formed, reads-short}
+use Rattle.checks.proofs.Places.{written-fits, arguments-sound, well-formed}
 use Rattle.driver.proofs.replies.reply_waiting.Statement.{statement}
 use Rattle.driver.proofs.replies.reply_waiting.Tie as tie
 
@@ -22,7 +22,6 @@ take-at-requires c κs = let s = c .before .before .args .s in
       sound = well-formed s (c .before .before .pre);
       fits = subst (λ (i : Instruction). s .a ≤ mostAt i) (sym (c .before .instruction-at .ensures)) (written-fits (s .code) (s .a) (s .b) (arguments-sound s (c .before .before .pre)) (s .step));
       shape = c .shape-of .ensures;
-      short = rw (c .shape-of .ensures, c .before .instruction-at .ensures) (reads-short (s .code) (s .step));
     }
 
 returns : tie.Need-returns

@@ -42,13 +42,13 @@ abbrev μ-loop : tie.MeasureT-loop
 
 loop-holds : tie.Need-loop-holds Inv-loop μ-loop
 loop-holds c = let a = c .args in
-    (omega (arith, c .good .0 .1 .0 .1), all (a .carried) (a .slot) (a .n) (a .t4))
+    (omega (arith, c .good .0 .1 .0 .1), all (a .carried) (a .slot) (a .n) (a .bytes))
 
 add-i : tie.Need-add-i Inv-loop μ-loop
 add-i c = search needs
 
-array-read-byte : tie.Need-array-read-byte Inv-loop μ-loop
-array-read-byte c = search needs
+reply-byte-requires : tie.Need-reply-byte-requires Inv-loop μ-loop
+reply-byte-requires c κs = search needs
 
 add-k : tie.Need-add-k Inv-loop μ-loop
 add-k c = search needs
@@ -61,15 +61,15 @@ loop-less c = search needs
 
 loop-again : tie.Need-loop-again Inv-loop μ-loop
 loop-again c =
-    let l = c .before .before in
-    (length-set (l .loop .next) _ _ ∙ l .loop .inv .0, more (l .loop .next) _ (l .loop .k) _ _ (omega arith) ∙ l .loop .inv .1)
+    let l = c .before .before .before in
+    (length-set (l .loop .next) _ _ ∙ l .loop .inv .0, rw (c .before .reply-byte .ensures) (more (l .loop .next) _ (l .loop .k) _ _ (omega arith) ∙ l .loop .inv .1))
 
 loop-less-2 : tie.Need-loop-less-2 Inv-loop μ-loop
 loop-less-2 c = search needs
 
 loop-again-2 : tie.Need-loop-again-2 Inv-loop μ-loop
 loop-again-2 c =
-    let l = c .before .before in
+    let l = c .before .before .before in
     (l .loop .inv .0, skipped (l .loop .next) _ (l .loop .k) _ _ (rw (l .loop .inv .0) (omega arith)) (omega arith) ∙ l .loop .inv .1)
 
 returns : tie.Need-returns Inv-loop μ-loop
@@ -85,7 +85,7 @@ store-bytes-spec =
     μ-loop
     loop-holds
     add-i
-    array-read-byte
+    reply-byte-requires
     add-k
     array-write-next
     loop-less
