@@ -14,15 +14,14 @@ use Rattle.session.specs.Bus.{detectorReady, statusReady, started, cleanFrom}
 use Rattle.session.specs.Instructions.{Op, write, read, wait, range}
 use Rattle.session.specs.Steps.{opOf}
 use Rattle.session.specs.Calls.{opsOf, tuning, programs, programOf, topCode, ceilings, ceilingOf, greatest, greatestOf, argumentsOk}
-use Rattle.session.specs.Machine.{idleWrong, upWrong, malformed}
+use Rattle.session.specs.Machine.{idleWrong, upWrong, malformed, illFormed}
 use Rattle.session.proofs.Facts.{or-parts, both, untrue}
 use Rattle.session.proofs.Table.{by-code, below-pass}
 use Rattle.session.proofs.Strays.{sound-step}
 use Rattle.calls.specs.Calls.{calls, callOf, stepOf, instructionAt, stepsIn}
-use Rattle.steps.specs.declared.Kind.{Kind}
 use Rattle.steps.specs.Steps.{shapeOf, mostAt}
 use Rattle.steps.specs.Ends.{mostFor}
-use Rattle.checks.specs.Sound.{Sound, limitOf, idleReached}
+use Rattle.checks.specs.Sound.{Sound, limitOf, kindAt, idleAt, malformedAt, illFormedAt}
 
 module _ (f : Instruction → Op) where
   mapped-at : (l : List Instruction) (k : ℕ) (d : Instruction) → k < length l → drop k (map f l) ≡ f (getD l k d) ∷ drop (suc k) (map f l)
@@ -58,13 +57,20 @@ limit-is code i (wait statusReady) rest = refl
 limit-is code i (wait started) rest = refl
 limit-is code i range rest = not-none i
 
-pub idle-is : (code step i : ℕ) → leb (stepsIn code) step || idleReached code step i ≡ idleWrong code (drop step (opsOf (programOf code))) i
-unfolding idleReached
+idle-is : (code step i : ℕ)
+    → idleAt code step (shapeOf (opOf (instructionAt code step)) .kind) i ≡ idleWrong code (drop step (opsOf (programOf code))) i
+unfolding idleAt
 idle-is code step i = at (leb (stepsIn code) step) refl
   where
-    at : (b : Bool) → leb (stepsIn code) step ≡ b → b || idleReached code step i ≡ idleWrong code (drop step (opsOf (programOf code))) i
+    at : (b : Bool) → leb (stepsIn code) step ≡ b
+        → b || leb (limitOf code (shapeOf (opOf (instructionAt code step)) .kind)) i ≡ idleWrong code (drop step (opsOf (programOf code))) i
     at true e = sym (rw (past-end code step (leb-true _ _ e)) refl)
     at false e = rw (at-step code step (leb-false _ _ e)) (limit-is code i (opOf (instructionAt code step)) (drop (suc step) (opsOf (programOf code))))
+
+-- the kind of the instruction that a session stands at decides as the machine does
+pub ill-is : (s : Session) → illFormedAt (kindAt s) s ≡ illFormed s
+unfolding malformedAt malformed
+ill-is s = rw (idle-is (s .code) (s .step) (s .idle)) refl
 
 -- arguments that 13 lets pass
 argument-bound : (code a b : ℕ) → argumentsOk code a b ≡ true → a ≤ greatestOf code .0
@@ -152,17 +158,3 @@ step-sound s h = at (leb (stepsIn (s .code)) (s .step)) refl
 pub clean-failure : (f reads : ℕ) → (f ≡ 0 → ⊥) → 0 ≡ cleanFrom f reads
 clean-failure zero reads n = absurd (n refl)
 clean-failure (suc e) reads n = refl
-
--- no limit is 0
-over-none : (code : ℕ) (k : Kind) → leb (limitOf code k) 0 ≡ false
-unfolding limitOf
-over-none code Kind.Write = refl
-over-none code Kind.Read = refl
-over-none code Kind.Detector = refl
-over-none code Kind.Status = refl
-over-none code Kind.Start = refl
-over-none code Kind.Range = refl
-
-pub not-idle : (code step idle : ℕ) → idle ≡ 0 → false ≡ idleReached code step idle
-unfolding idleReached
-not-idle code step idle e = sym (rw e (over-none code (shapeOf (opOf (instructionAt code step)) .kind)))

@@ -3,9 +3,9 @@ ghost use mathlib.Core.Path.{_≡_};
 ghost use mathlib.Core.Bool.{not, _&&_, _||_};
 ghost use lib.ListN.{drop};
 ghost use Rattle.session.specs.Bus.{cleanFrom};
-ghost use Rattle.session.specs.Calls.{opsOf, programOf, ceilingOf, argumentsOk};
-ghost use Rattle.session.specs.Machine.{allZero, idleWrong, upWrong, malformed, illFormed};
-ghost use Rattle.checks.specs.Sound.{limitOf, greatestA, greatestB, idleReached, strayIn};
+ghost use Rattle.session.specs.Calls.{ceilingOf, argumentsOk};
+ghost use Rattle.session.specs.Machine.{allZero, upWrong, illFormed};
+ghost use Rattle.checks.specs.Sound.{limitOf, greatestA, greatestB, idleAt, malformedAt, illFormedAt, strayIn};
 use session::Session;
 use steps::Kind;
 
@@ -94,25 +94,11 @@ pub fn limit_of(code: u8, kind: Kind) -> u32
     }
 }
 
-// Idle reads at or over the limit of the instruction at a step. Every limit is over 0, so that most steps need no look-up.
-fn idle_reached(code: u8, step: u8, idle: u32) -> bool
-    ensures { λ r. ⌜ r ≡ idleReached code step idle ⌝ }
+// A step that is not of its call, or too many idle reads for an instruction of a kind.
+fn idle_at(code: u8, step: u8, kind: Kind, idle: u32) -> bool
+    ensures { λ r. ⌜ r ≡ idleAt code step kind idle ⌝ }
 {
-    if idle == 0 {
-        return false;
-    }
-    let kind = steps::shape_of(calls::instruction_at(code, step)).kind;
-    limit_of(code, kind) <= idle
-}
-
-// A step that is not of its call, or too many idle reads for it.
-fn idle_wrong(code: u8, step: u8, idle: u32) -> bool
-    ensures { λ r. ⌜ r ≡ idleWrong code (drop step (opsOf (programOf code))) idle ⌝ }
-{
-    either(
-        calls::steps_in(code) <= step,
-        idle_reached(code, step, idle),
-    )
+    either(calls::steps_in(code) <= step, limit_of(code, kind) <= idle)
 }
 
 fn up_wrong(code: u8, up: bool) -> bool
@@ -121,26 +107,38 @@ fn up_wrong(code: u8, up: bool) -> bool
     if code == 1 { up } else { negated(up) }
 }
 
-fn malformed(s: Session) -> bool
-    ensures { λ r. ⌜ r ≡ malformed s ⌝ }
+fn malformed_at(s: Session, kind: Kind) -> bool
+    ensures { λ r. ⌜ r ≡ malformedAt kind s ⌝ }
 {
     let driver = s.driver;
     let wrong = either(
         negated(arguments_ok(s.code, s.a, s.b)),
         up_wrong(s.code, driver.up),
     );
-    let idle = either(wrong, idle_wrong(s.code, s.step, s.idle));
+    let idle = either(wrong, idle_at(s.code, s.step, kind, s.idle));
     either(
         either(idle, s.transfers == 0),
         ceiling_of(s.code) < s.transfers,
     )
 }
 
-// 01's answer 15: the session says that a call waits, and is no session that waits in it.
+// 01's answer 15: the session says that a call waits, and is no session that waits in it. Whoever has looked up the instruction that it stands
+// at gives its kind.
+pub fn ill_formed_at(s: Session, kind: Kind) -> bool
+    ensures { λ r. ⌜ r ≡ illFormedAt kind s ⌝ }
+{
+    if s.code == 0 {
+        false
+    } else {
+        malformed_at(s, kind)
+    }
+}
+
 pub fn ill_formed(s: Session) -> bool
     ensures { λ r. ⌜ r ≡ illFormed s ⌝ }
 {
-    if s.code == 0 { false } else { malformed(s) }
+    let kind = steps::shape_of(calls::instruction_at(s.code, s.step)).kind;
+    ill_formed_at(s, kind)
 }
 
 // A byte that is not zero, from the `from`-th on.

@@ -1,12 +1,15 @@
 // A reply of the bus, and the transfer that a session has out.
 ghost use mathlib.Core.Path.{_≡_};
-ghost use mathlib.Core.Bool.{false};
-ghost use Rattle.session.specs.Machine.{refused, broken, illFormed, malformed, replyDef};
+ghost use Rattle.session.specs.Machine.{refused, broken, illFormed, replyDef};
+ghost use Rattle.session.specs.Steps.{opOf};
+ghost use Rattle.calls.specs.Calls.{instructionAt};
+ghost use Rattle.steps.specs.Steps.{shapeOf};
 ghost use Rattle.checks.specs.Sound.{strayIn};
 ghost use Rattle.reactions.specs.Outcome.{outcomeOf};
 ghost use Rattle.reactions.specs.Reactions.{Taken, Reaches};
-ghost use Rattle.driver.specs.Replies.{taking, replying, outstandingOf};
+ghost use Rattle.driver.specs.Replies.{taking, outstandingOf};
 use checks::ill_formed;
+use checks::ill_formed_at;
 use checks::stray;
 use reactions::Course;
 use reactions::Outcome;
@@ -61,17 +64,11 @@ fn take_at(i: Instruction, x: Shape, s: Session, failure: u8, bytes: [u8; 6]) ->
     take(stray(x.reads, failure, bytes), i, x, s, failure, bytes)
 }
 
-// The reply to a session that waits and is well formed.
-fn reply_waiting(s: Session, failure: u8, bytes: [u8; 6]) -> Course
-    requires { ⌜ malformed s ≡ false ⌝ }
-    ensures { λ r. ⌜ Reaches r (replying s failure bytes) ⌝ }
-{
-    let i = calls::instruction_at(s.code, s.step);
-    take_at(i, steps::shape_of(i), s, failure, bytes)
-}
-
-fn reply_if(ill: bool, s: Session, failure: u8, bytes: [u8; 6]) -> Course
+// The reply to the instruction that a session stands at.
+fn reply_at(ill: bool, i: Instruction, x: Shape, s: Session, failure: u8, bytes: [u8; 6]) -> Course
     requires { ⌜ ill ≡ illFormed s ⌝ }
+    requires { ⌜ i ≡ instructionAt (s .code) (s .step) ⌝ }
+    requires { ⌜ x ≡ shapeOf (opOf i) ⌝ }
     ensures { λ r. ⌜ Reaches r (replyDef s failure bytes) ⌝ }
 {
     if ill {
@@ -79,14 +76,18 @@ fn reply_if(ill: bool, s: Session, failure: u8, bytes: [u8; 6]) -> Course
     } else if s.code == 0 {
         refuse(Answer::NoCallWaits, s)
     } else {
-        reply_waiting(s, failure, bytes)
+        take_at(i, x, s, failure, bytes)
     }
 }
 
+// The instruction is looked up once, for the tests of 15 and 12 and for what the reply does.
 pub fn reply_course(s: Session, failure: u8, bytes: [u8; 6]) -> Course
     ensures { λ r. ⌜ Reaches r (replyDef s failure bytes) ⌝ }
 {
-    reply_if(ill_formed(s), s, failure, bytes)
+    let i = calls::instruction_at(s.code, s.step);
+    let x = steps::shape_of(i);
+    let kind = x.kind;
+    reply_at(ill_formed_at(s, kind), i, x, s, failure, bytes)
 }
 
 // A reply: the failure code or 0, and six data bytes.
