@@ -26,13 +26,17 @@ same-length c = search needs
 
 returns : tie.Need-returns
 unfolding answerLine
-returns c = (
-  (then (c .before .before .before .before .before .before .before .before .before .before .before .before .before .before .before .before .before .before .put-byte .ensures)
-      (then (c .before .before .before .before .before .before .before .before .before .before .before .before .before .before .put-small .ensures .0)
-      (then (c .before .before .before .before .before .before .before .before .before .before .put-number .ensures .0)
-      (then (c .before .before .before .before .before .before .put-number2 .ensures .0) (c .before .before .put-byte2 .ensures))))),
-  omega arith,
-)
+returns c =
+    let c₅ = c .before .before in
+    let c₄ = c₅ .before .before .before .before in
+    let c₃ = c₄ .before .before .before .before in
+    let c₂ = c₃ .before .before .before .before in
+    let c₁ = c₂ .before .before .before .before in
+    let text =
+    then (c₁ .put-byte .ensures)
+    (then (c₂ .put-small .ensures .0)
+    (then (c₃ .put-number .ensures .0) (then (c₄ .put-number2 .ensures .0) (c₅ .put-byte2 .ensures)))) in
+    (text, omega arith)
 
 pub put-answer-spec : {M : Type 1} → statement M
 put-answer-spec =

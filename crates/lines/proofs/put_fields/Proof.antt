@@ -33,14 +33,18 @@ same-length c = search needs
 returns : tie.Need-returns
 unfolding fieldsLine
 returns c =
-    rw (← c .before .before .before .before .before .before .before .before .before .before .before .before .before .before .before .before .before .before .before .flag-of .ensures) (
-      (then (c .before .before .before .before .before .before .before .before .before .before .before .before .before .before .before .before .before .before .before .before .before .before .before .put-byte .ensures)
-          (then (c .before .before .before .before .before .before .before .before .before .before .before .before .before .before .before .before .before .before .put-small .ensures .0)
-          (then (c .before .before .before .before .before .before .before .before .before .before .before .before .before .before .put-small2 .ensures .0)
-          (then (c .before .before .before .before .before .before .before .before .before .before .put-small3 .ensures .0)
-          (then (c .before .before .before .before .before .before .put-number .ensures .0) (c .before .before .put-byte2 .ensures)))))),
-      omega arith,
-    )
+    let c₆ = c .before .before in
+    let c₅ = c₆ .before .before .before .before in
+    let c₄ = c₅ .before .before .before .before in
+    let c₃ = c₄ .before .before .before .before in
+    let c₂ = c₃ .before .before .before .before in
+    let c₁ = c₂ .before .before .before .before .before in
+    let text =
+    then (c₁ .put-byte .ensures)
+    (then (c₂ .put-small .ensures .0)
+    (then (c₃ .put-small2 .ensures .0)
+    (then (c₄ .put-small3 .ensures .0) (then (c₅ .put-number .ensures .0) (c₆ .put-byte2 .ensures))))) in
+    rw (← c₂ .before .flag-of .ensures) (text, omega arith)
 
 pub put-fields-spec : {M : Type 1} → statement M
 put-fields-spec =

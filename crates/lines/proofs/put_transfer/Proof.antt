@@ -32,15 +32,20 @@ same-length c = search needs
 
 returns : tie.Need-returns
 unfolding transferLine
-returns c = (
-  (then (c .before .before .before .before .before .before .before .before .before .before .before .before .before .before .before .before .before .before .before .before .before .before .before .before .before .before .put-byte .ensures)
-      (then (c .before .before .before .before .before .before .before .before .before .before .before .before .before .before .before .before .before .before .before .before .before .before .put-byte2 .ensures)
-      (then (c .before .before .before .before .before .before .before .before .before .before .before .before .before .before .before .before .before .before .put-pair .ensures)
-      (then (c .before .before .before .before .before .before .before .before .before .before .before .before .before .before .put-byte3 .ensures)
-      (then (c .before .before .before .before .before .before .before .before .before .before .put-pairs .ensures .0)
-      (then (c .before .before .before .before .before .before .put-small .ensures .0) (c .before .before .put-byte4 .ensures))))))),
-  omega arith,
-)
+returns c =
+    let c₇ = c .before .before in
+    let c₆ = c₇ .before .before .before .before in
+    let c₅ = c₆ .before .before .before .before in
+    let c₄ = c₅ .before .before .before .before in
+    let c₃ = c₄ .before .before .before .before in
+    let c₂ = c₃ .before .before .before .before in
+    let c₁ = c₂ .before .before .before .before in
+    let text =
+    then (c₁ .put-byte .ensures)
+    (then (c₂ .put-byte2 .ensures)
+    (then (c₃ .put-pair .ensures)
+    (then (c₄ .put-byte3 .ensures) (then (c₅ .put-pairs .ensures .0) (then (c₆ .put-small .ensures .0) (c₇ .put-byte4 .ensures)))))) in
+    (text, omega arith)
 
 pub put-transfer-spec : {M : Type 1} → statement M
 put-transfer-spec =

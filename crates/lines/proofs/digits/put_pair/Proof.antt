@@ -21,8 +21,9 @@ same-length c = search needs
 
 returns : tie.Need-returns
 returns c =
-    rw (← c .before .before .before .before .before .before .before .before .hex-digit .ensures, ← c .before .before .before .hex-digit2 .ensures)
-    (then (c .before .before .before .before .before .before .before .put-byte .ensures) (c .before .before .put-byte2 .ensures))
+    let c₂ = c .before .before in
+    let c₁ = c₂ .before .before .before .before .before in
+    rw (← c₁ .before .hex-digit .ensures, ← c₂ .before .hex-digit2 .ensures) (then (c₁ .put-byte .ensures) (c₂ .put-byte2 .ensures))
 
 pub put-pair-spec : {M : Type 1} → statement M
 put-pair-spec =
