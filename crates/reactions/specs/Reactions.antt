@@ -1,5 +1,5 @@
--- What a reply does to a waiting session, in four steps over the plain data of its instruction: what is kept, where the call goes,
--- what that comes to, and the outcome. That this is the machine's `react` is proved.
+-- Where a record takes a session, in four steps over the plain data of the instruction that it stands at: what is kept of a reply, which way it
+-- leads, what that comes to, and the outcome. That this is the machine's `react` is proved. A course is a way with the session that goes it.
 use mathlib.Core.Bool.{Bool, true, false, cond, _&&_}
 use mathlib.Core.Path.{_≡_}
 use mathlib.Core.List.{List}
