@@ -1,5 +1,4 @@
 // The lines of a block of records, as one text.
-ghost use mathlib.Core.Path.{_≡_};
 ghost use Prim.Native.Nat.{_+_, _*_, _≤_};
 ghost use lib.ListN.{length};
 ghost use Rattle.lines.specs.Put.{PutLine};

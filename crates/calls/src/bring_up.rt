@@ -203,7 +203,7 @@ fn from_spads(step: u8) -> Instruction
     }
 }
 
-pub fn with_address(step: u8) -> Instruction
+pub(crate) fn with_address(step: u8) -> Instruction
     ensures { λ r. ⌜ r ≡ stepOf bringUpSteps step ⌝ }
 {
     if step < 15 {

@@ -7,13 +7,13 @@ ghost use Rattle.calls.specs.Parts.{calibrationStart};
 use session::Instruction;
 
 // A sequence of one instruction, of two, of three.
-pub fn one(i: Instruction, step: u8) -> Instruction
+pub(crate) fn one(i: Instruction, step: u8) -> Instruction
     ensures { λ r. ⌜ r ≡ stepOf (i ∷ []) step ⌝ }
 {
     if step == 0 { i } else { Instruction::Nowhere }
 }
 
-pub fn two(i: Instruction, j: Instruction, step: u8) -> Instruction
+pub(crate) fn two(i: Instruction, j: Instruction, step: u8) -> Instruction
     ensures { λ r. ⌜ r ≡ stepOf (i ∷ j ∷ []) step ⌝ }
 {
     if step == 0 { i } else { one(j, step - 1) }
@@ -26,7 +26,7 @@ fn three(i: Instruction, j: Instruction, k: Instruction, step: u8) -> Instructio
 }
 
 // clear_interrupt_status
-pub fn clearing(step: u8) -> Instruction
+pub(crate) fn clearing(step: u8) -> Instruction
     ensures { λ r. ⌜ r ≡ stepOf clearing step ⌝ }
 {
     two(
@@ -46,7 +46,7 @@ const PREPARATION: [Instruction; 6] = [
     Instruction::Write(0xFF, 0x00),
 ];
 
-pub fn preparation(step: u8) -> Instruction
+pub(crate) fn preparation(step: u8) -> Instruction
     ensures { λ r. ⌜ r ≡ stepOf preparation step ⌝ }
 {
     let i = step as usize;
@@ -73,7 +73,7 @@ fn timing_reads(slot: u8, step: u8) -> Instruction
 }
 
 // get_measurement_timing_budget
-pub fn budget_reads(step: u8) -> Instruction
+pub(crate) fn budget_reads(step: u8) -> Instruction
     ensures { λ r. ⌜ r ≡ stepOf budgetReads step ⌝ }
 {
     if step < 5 {
@@ -84,7 +84,7 @@ pub fn budget_reads(step: u8) -> Instruction
 }
 
 // set_measurement_timing_budget after its first test
-pub fn budget_steps(slot: u8, step: u8) -> Instruction
+pub(crate) fn budget_steps(slot: u8, step: u8) -> Instruction
     ensures { λ r. ⌜ r ≡ stepOf (budgetSteps slot) step ⌝ }
 {
     if step < 5 {
@@ -99,7 +99,7 @@ pub fn budget_steps(slot: u8, step: u8) -> Instruction
 }
 
 // set_gpio_config
-pub fn gpio_steps(function: Instruction, polarity: Instruction, step: u8) -> Instruction
+pub(crate) fn gpio_steps(function: Instruction, polarity: Instruction, step: u8) -> Instruction
     ensures { λ r. ⌜ r ≡ stepOf (gpioSteps function polarity) step ⌝ }
 {
     if step < 3 {
@@ -125,7 +125,7 @@ fn calibration_start(byte: u8, step: u8) -> Instruction
 }
 
 // perform_single_ref_calibration
-pub fn calibration(byte: u8, step: u8) -> Instruction
+pub(crate) fn calibration(byte: u8, step: u8) -> Instruction
     ensures { λ r. ⌜ r ≡ stepOf (calibration byte) step ⌝ }
 {
     if step < 4 {

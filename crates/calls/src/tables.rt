@@ -10,13 +10,13 @@ use crate::sections::preparation;
 use crate::sections::two;
 use session::Instruction;
 
-pub fn who_am_i(step: u8) -> Instruction
+pub(crate) fn who_am_i(step: u8) -> Instruction
     ensures { λ r. ⌜ r ≡ stepOf (whoAmI .steps) step ⌝ }
 {
     one(Instruction::Read(0xC0, 0), step)
 }
 
-pub fn set_address(step: u8) -> Instruction
+pub(crate) fn set_address(step: u8) -> Instruction
     ensures { λ r. ⌜ r ≡ stepOf (setAddress .steps) step ⌝ }
 {
     one(Instruction::WriteAddress, step)
@@ -40,7 +40,7 @@ fn start_steps(step: u8) -> Instruction
     }
 }
 
-pub fn start_continuous(step: u8) -> Instruction
+pub(crate) fn start_continuous(step: u8) -> Instruction
     ensures { λ r. ⌜ r ≡ stepOf (startContinuous .steps) step ⌝ }
 {
     if step < 6 {
@@ -59,7 +59,7 @@ const STOP_CONTINUOUS: [Instruction; 6] = [
     Instruction::Write(0xFF, 0x00),
 ];
 
-pub fn stop_continuous(step: u8) -> Instruction
+pub(crate) fn stop_continuous(step: u8) -> Instruction
     ensures { λ r. ⌜ r ≡ stepOf (stopContinuous .steps) step ⌝ }
 {
     let i = step as usize;
@@ -81,13 +81,13 @@ fn range_steps(before: Instruction, step: u8) -> Instruction
     }
 }
 
-pub fn read_range_mm(step: u8) -> Instruction
+pub(crate) fn read_range_mm(step: u8) -> Instruction
     ensures { λ r. ⌜ r ≡ stepOf (readRangeMm .steps) step ⌝ }
 {
     range_steps(Instruction::ReadStatus, step)
 }
 
-pub fn read_range_continuous(step: u8) -> Instruction
+pub(crate) fn read_range_continuous(step: u8) -> Instruction
     ensures { λ r. ⌜ r ≡ stepOf (readRangeContinuous .steps) step ⌝ }
 {
     range_steps(Instruction::AwaitStatus, step)
@@ -121,7 +121,7 @@ fn single_steps(step: u8) -> Instruction
     }
 }
 
-pub fn read_range_single(step: u8) -> Instruction
+pub(crate) fn read_range_single(step: u8) -> Instruction
     ensures { λ r. ⌜ r ≡ stepOf (readRangeSingle .steps) step ⌝ }
 {
     if step < 6 {
@@ -131,13 +131,13 @@ pub fn read_range_single(step: u8) -> Instruction
     }
 }
 
-pub fn set_thresholds(step: u8) -> Instruction
+pub(crate) fn set_thresholds(step: u8) -> Instruction
     ensures { λ r. ⌜ r ≡ stepOf (setThresholds .steps) step ⌝ }
 {
     two(Instruction::WriteLow, Instruction::WriteHigh, step)
 }
 
-pub fn get_thresholds(step: u8) -> Instruction
+pub(crate) fn get_thresholds(step: u8) -> Instruction
     ensures { λ r. ⌜ r ≡ stepOf (getThresholds .steps) step ⌝ }
 {
     two(
@@ -147,13 +147,13 @@ pub fn get_thresholds(step: u8) -> Instruction
     )
 }
 
-pub fn set_gpio_config(step: u8) -> Instruction
+pub(crate) fn set_gpio_config(step: u8) -> Instruction
     ensures { λ r. ⌜ r ≡ stepOf (setGpioConfig .steps) step ⌝ }
 {
     gpio_steps(Instruction::WriteFunction, Instruction::WritePolarity, step)
 }
 
-pub fn set_signal_rate_limit(step: u8) -> Instruction
+pub(crate) fn set_signal_rate_limit(step: u8) -> Instruction
     ensures { λ r. ⌜ r ≡ stepOf (setSignalRateLimit .steps) step ⌝ }
 {
     one(Instruction::WriteRate, step)

@@ -97,7 +97,7 @@ fn tuning_row(i: u8) -> [u8; 2]
     if i < 80 { TUNING[i] } else { [0; 2] }
 }
 
-pub fn load_tuning_settings(step: u8) -> Instruction
+pub(crate) fn load_tuning_settings(step: u8) -> Instruction
     ensures { λ r. ⌜ r ≡ stepOf (rows tuning) step ⌝ }
 {
     let row = tuning_row(step);

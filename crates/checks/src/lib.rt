@@ -1,4 +1,4 @@
-// Answers 15 and 12: is a session well formed, does a reply have stray bytes?
+// Answers 15, 13 and 12: is a session well formed, are arguments in range, does a reply have stray bytes?
 ghost use mathlib.Core.Path.{_≡_};
 ghost use mathlib.Core.Bool.{not, _&&_, _||_};
 ghost use lib.ListN.{drop};

@@ -25,7 +25,7 @@ use session::Transfer;
 use steps::Shape;
 
 // A refusal keeps the session.
-pub fn refuse(x: Answer, s: Session) -> Course
+pub(crate) fn refuse(x: Answer, s: Session) -> Course
     ensures { λ r. ⌜ Reaches r (refused x s) ⌝ }
 {
     Course {
@@ -35,7 +35,7 @@ pub fn refuse(x: Answer, s: Session) -> Course
     }
 }
 
-pub fn broken(s: Session) -> Course
+pub(crate) fn broken(s: Session) -> Course
     ensures { λ r. ⌜ Reaches r (broken s) ⌝ }
 {
     Course {

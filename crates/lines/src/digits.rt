@@ -6,7 +6,7 @@ ghost use lib.ListN.{length, take};
 ghost use Rattle.lines.specs.Lines.{space, hexDigit, hexPair, hexPairs, decimal};
 ghost use Rattle.lines.specs.Put.{Put};
 
-pub fn put_byte(text: &mut [u8], at: usize, byte: u8) -> usize
+pub(crate) fn put_byte(text: &mut [u8], at: usize, byte: u8) -> usize
     requires { ⌜ at < length (now text) ⌝ }
     ensures { λ r. ⌜ Put (now (text .entry)) at (byte ∷ []) (now (text .exit)) r ⌝ }
 {
@@ -21,7 +21,7 @@ fn hex_digit(n: u8) -> u8
     if n < 10 { b'0' + n } else { b'A' - 10 + n }
 }
 
-pub fn put_pair(text: &mut [u8], at: usize, byte: u8) -> usize
+pub(crate) fn put_pair(text: &mut [u8], at: usize, byte: u8) -> usize
     requires { ⌜ at + 2 ≤ length (now text) ⌝ }
     ensures { λ r. ⌜ Put (now (text .entry)) at (hexPair byte) (now (text .exit)) r ⌝ }
 {
@@ -36,7 +36,7 @@ fn at_most_7(count: u8) -> usize
     if count < 7 { count as usize } else { 7 }
 }
 
-pub fn put_pairs(text: &mut [u8], at: usize, written: [u8; 7], count: u8) -> usize
+pub(crate) fn put_pairs(text: &mut [u8], at: usize, written: [u8; 7], count: u8) -> usize
     requires { ⌜ at + 14 ≤ length (now text) ⌝ }
     ensures { λ r. ⌜ Put (now (text .entry)) at (hexPairs (take count written)) (now (text .exit)) r ⌝ }
     ensures { λ r. ⌜ r ≤ at + 14 ⌝ }
@@ -64,7 +64,7 @@ fn put_decimal(text: &mut [u8], at: usize, n: u32) -> usize
 }
 
 // A number after a space: of ten digits at most, and of three.
-pub fn put_number(text: &mut [u8], at: usize, n: u32) -> usize
+pub(crate) fn put_number(text: &mut [u8], at: usize, n: u32) -> usize
     requires { ⌜ at + 11 ≤ length (now text) ⌝ }
     ensures { λ r. ⌜ Put (now (text .entry)) at (space ∷ decimal n) (now (text .exit)) r ⌝ }
     ensures { λ r. ⌜ r ≤ at + 11 ⌝ }
@@ -73,7 +73,7 @@ pub fn put_number(text: &mut [u8], at: usize, n: u32) -> usize
     put_decimal(text, next, n)
 }
 
-pub fn put_small(text: &mut [u8], at: usize, n: u8) -> usize
+pub(crate) fn put_small(text: &mut [u8], at: usize, n: u8) -> usize
     requires { ⌜ at + 4 ≤ length (now text) ⌝ }
     ensures { λ r. ⌜ Put (now (text .entry)) at (space ∷ decimal n) (now (text .exit)) r ⌝ }
     ensures { λ r. ⌜ r ≤ at + 4 ⌝ }

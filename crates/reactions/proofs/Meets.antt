@@ -28,7 +28,7 @@ use Rattle.reactions.specs.declared.Plan.{Plan}
 use Rattle.reactions.specs.declared.Course.{Course}
 use Rattle.reactions.specs.declared.Outcome.{Outcome}
 use Rattle.reactions.specs.Outcome.{outcomeOf}
-use Rattle.reactions.specs.Reactions.{keepFailure, withFailure, keeps, keepIf, keptBy, wayOf, reported, idling, waiting, decides, decidedBy, waitWay, goodWay, failedWay, wayAfter, leads, arrivalAt, planOf, moves, SoundIf, mostIn, ending, concluding, acting, reached, Fit, Reaches}
+use Rattle.reactions.specs.Reactions.{keepFailure, withFailure, keeps, keepIf, keptBy, wayOf, reported, idling, waiting, decides, decidedBy, waitWay, goodWay, failedWay, wayAfter, leads, arrivalAt, planOf, moves, SoundIf, mostIn, ending, concluding, acting, reached, Reaches}
 
 -- on to a step
 arrives : (k : ℕ) (s : Session) → acting (arrivalAt k s) s ≡ arrive (programOf (s .code)) k s

@@ -53,7 +53,7 @@ fn keep_if(on: bool, x: Shape, s: Session, bytes: [u8; 6]) -> Session
 }
 
 // What is kept of a reply.
-pub fn kept_by(x: Shape, s: Session, failure: u8, bytes: [u8; 6]) -> Session
+pub(crate) fn kept_by(x: Shape, s: Session, failure: u8, bytes: [u8; 6]) -> Session
     ensures { λ r. ⌜ r ≡ keptBy (x .kind) x s failure bytes ⌝ }
 {
     let kind = x.kind;

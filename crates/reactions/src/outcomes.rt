@@ -162,7 +162,7 @@ fn broken(s: Session) -> Outcome
     }
 }
 
-pub fn act(plan: Plan, s: Session) -> Outcome
+pub(crate) fn act(plan: Plan, s: Session) -> Outcome
     requires { ⌜ SoundIf (moves plan) s ⌝ }
     requires { ⌜ s .a ≤ mostIn plan ⌝ }
     ensures { λ r. ⌜ r ≡ outcomeOf (acting plan s) ⌝ }

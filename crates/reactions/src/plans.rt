@@ -25,7 +25,7 @@ fn arrival_at(step: u32, s: Session) -> Plan
     arrival_within(calls::steps_in(s.code), step, s)
 }
 
-pub fn plan_of(way: Way, i: Instruction, s: Session) -> Plan
+pub(crate) fn plan_of(way: Way, i: Instruction, s: Session) -> Plan
     ensures { λ r. ⌜ r ≡ planOf way i s ⌝ }
 {
     match way {

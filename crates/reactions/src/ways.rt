@@ -1,6 +1,5 @@
 // Where a reply leads.
 ghost use mathlib.Core.Path.{_≡_};
-ghost use Prim.Native.Nat.{_≤_};
 ghost use Rattle.session.specs.Steps.{opOf};
 ghost use Rattle.reactions.specs.Reactions.{wayOf, reported, idling, waiting, decides, decidedBy, waitWay, goodWay, failedWay, wayAfter};
 use crate::Way;
@@ -13,13 +12,12 @@ use steps::Next;
 use steps::Shape;
 
 // A leap leaves out `over` instructions.
-pub fn way_of(next: Next, over: u8, step: u32) -> Way
-    requires { ⌜ step ≤ 256 ⌝ }
+pub fn way_of(next: Next, over: u8, step: u16) -> Way
     ensures { λ r. ⌜ r ≡ wayOf next over step ⌝ }
 {
     match next {
-        Next::Onward => Way::To(step),
-        Next::Leap => Way::To(step + over as u32),
+        Next::Onward => Way::To(step as u32),
+        Next::Leap => Way::To(step as u32 + over as u32),
         Next::Stop(x) => Way::Out(x),
     }
 }
@@ -60,7 +58,7 @@ fn waiting(idle: bool, limit: u32, s: Session) -> Way
 fn decided(i: Instruction, over: u8, s: Session) -> Way
     ensures { λ r. ⌜ r ≡ decidedBy (opOf i) over s ⌝ }
 {
-    way_of(steps::verdict(i, s), over, s.step as u32 + 1)
+    way_of(steps::verdict(i, s), over, s.step as u16 + 1)
 }
 
 // Does a good reply decide where the call goes, and not how long it waits?
@@ -116,7 +114,7 @@ fn failed_way(kind: Kind, failure: u8, s: Session) -> Way
 }
 
 // Where a session that has kept a reply goes.
-pub fn way_after(i: Instruction, x: Shape, s: Session, failure: u8, bytes: [u8; 6]) -> Way
+pub(crate) fn way_after(i: Instruction, x: Shape, s: Session, failure: u8, bytes: [u8; 6]) -> Way
     ensures { λ r. ⌜ r ≡ wayAfter (x .kind) (opOf i) x s failure bytes ⌝ }
 {
     let kind = x.kind;

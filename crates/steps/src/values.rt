@@ -18,14 +18,14 @@ use session::Session;
 use timing::TimingRegisters;
 
 // A carried byte; past the end there is none.
-pub fn carried_byte(carried: [u8; 24], k: u32) -> u8
+pub(crate) fn carried_byte(carried: [u8; 24], k: u32) -> u8
     ensures { λ r. ⌜ r ≡ getD carried k 0 ⌝ }
 {
     let i = k as usize;
     if i < 24 { carried[i] } else { 0 }
 }
 
-pub fn word(high: u8, low: u8) -> u16
+pub(crate) fn word(high: u8, low: u8) -> u16
     ensures { λ r. ⌜ r ≡ wordOf high low ⌝ }
 {
     (high as u16) * 256 + (low as u16)
@@ -65,14 +65,14 @@ fn eight_bytes(slot: u8, carried: [u8; 24]) -> [u8; 8]
 }
 
 // The six budget replies that are carried from a slot on.
-pub fn timing_in(slot: u8, carried: [u8; 24]) -> TimingRegisters
+pub(crate) fn timing_in(slot: u8, carried: [u8; 24]) -> TimingRegisters
     ensures { λ r. ⌜ r ≡ timingIn slot carried ⌝ }
 {
     timing::timing_registers(eight_bytes(slot, carried))
 }
 
 // Call 15's value for them.
-pub fn budget_in(slot: u8, carried: [u8; 24]) -> u32
+pub(crate) fn budget_in(slot: u8, carried: [u8; 24]) -> u32
     ensures { λ r. ⌜ r ≡ budgetIn slot carried ⌝ }
 {
     timing::time_in(budget::measurement_timing_budget(timing_in(slot, carried))).0
@@ -85,7 +85,7 @@ fn budget_to_set(slot: u8, s: Session) -> u32
     if slot == 16 { s.own } else { s.a }
 }
 
-pub fn word_to_set(slot: u8, s: Session) -> WordOr
+pub(crate) fn word_to_set(slot: u8, s: Session) -> WordOr
     ensures { λ r. ⌜ r ≡ wordToSet slot (contextOf s) ⌝ }
 {
     let carried = s.carried;
@@ -96,7 +96,7 @@ pub fn word_to_set(slot: u8, s: Session) -> WordOr
     )
 }
 
-pub fn word_in(word: WordOr) -> u16
+pub(crate) fn word_in(word: WordOr) -> u16
     ensures { λ r. ⌜ r ≡ wordIn word ⌝ }
 {
     match word {
@@ -106,7 +106,7 @@ pub fn word_in(word: WordOr) -> u16
     }
 }
 
-pub fn rate_in(rate: RateWord) -> u16
+pub(crate) fn rate_in(rate: RateWord) -> u16
     ensures { λ r. ⌜ r ≡ rateIn rate ⌝ }
 {
     match rate {
@@ -115,14 +115,14 @@ pub fn rate_in(rate: RateWord) -> u16
     }
 }
 
-pub fn oscillator_word(s: Session) -> u16
+pub(crate) fn oscillator_word(s: Session) -> u16
     ensures { λ r. ⌜ r ≡ slotWord 8 (contextOf s) ⌝ }
 {
     word(s.carried[8], s.carried[9])
 }
 
 // An oscillator word of 0 leaves the period. In 64 bits it always fits.
-pub fn timed_period(period: u32, oscillator: u16) -> u64
+pub(crate) fn timed_period(period: u32, oscillator: u16) -> u64
     ensures { λ r. ⌜ r ≡ cond (eqb oscillator 0) period (period * oscillator) ⌝ }
 {
     if oscillator == 0 {
@@ -132,20 +132,20 @@ pub fn timed_period(period: u32, oscillator: u16) -> u64
     }
 }
 
-pub fn or_byte(x: u8, mask: u8) -> u8
+pub(crate) fn or_byte(x: u8, mask: u8) -> u8
     ensures { λ r. ⌜ r ≡ orByte x mask ⌝ }
 {
     x | mask
 }
 
-pub fn and_byte(x: u8, mask: u8) -> u8
+pub(crate) fn and_byte(x: u8, mask: u8) -> u8
     ensures { λ r. ⌜ r ≡ andByte x mask ⌝ }
 {
     x & mask
 }
 
 // The new detector map: the count stands in the low seven bits of the byte of 0x92, the aperture flag above them.
-pub fn new_map(s: Session) -> [u8; 6]
+pub(crate) fn new_map(s: Session) -> [u8; 6]
     ensures { λ r. ⌜ r ≡ newMap (contextOf s) ⌝ }
 {
     let info = s.carried[3];

@@ -1,9 +1,5 @@
 -- `blocks::put_line` meets its contract.
 use borrow.Author.Needs.{needs}
-use mathlib.Core.Path.{subst}
-use mathlib.Core.List.{List}
-use Prim.Native.Nat.{ℕ}
-use Rattle.lines.specs.Put.{PutLine}
 use Rattle.blocks.proofs.Texts.{shows-outcomes, shows-fields}
 use Rattle.blocks.proofs.put_line.Statement.{statement}
 use Rattle.blocks.proofs.put_line.Tie as tie

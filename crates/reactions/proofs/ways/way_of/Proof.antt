@@ -11,8 +11,8 @@ enum-told c = search needs
 enum-told-2 : tie.Need-enum-told-2
 enum-told-2 c = search needs
 
-add-t7 : tie.Need-add-t7
-add-t7 c = search needs
+add-t9 : tie.Need-add-t9
+add-t9 c = search needs
 
 enum-known-next : tie.Need-enum-known-next
 enum-known-next c = search needs
@@ -31,4 +31,4 @@ returns-3 c = search cases
 
 pub way-of-spec : {M : Type 1} → statement M
 way-of-spec =
-    tie.close (tie.spec enum-told enum-told-2 add-t7 enum-known-next returns returns-2 returns-3)
+    tie.close (tie.spec enum-told enum-told-2 add-t9 enum-known-next returns returns-2 returns-3)

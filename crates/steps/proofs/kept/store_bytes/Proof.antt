@@ -1,6 +1,6 @@
 -- `steps::kept::store_bytes` meets its contract. The invariant: storing the bytes that are left gives what storing all of them gives; the measure is
 -- how many are left.
-use mathlib.Core.Path.{_≡_, refl, sym, ap, _∙_}
+use mathlib.Core.Path.{_≡_, refl, ap, _∙_}
 use mathlib.Core.List.{List}
 use Prim.Native.Nat.{ℕ, suc, _+_, _-_, _≤_, _<_}
 use native.Mathlib.Omega.{arith}
