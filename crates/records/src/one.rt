@@ -10,13 +10,14 @@ use reactions::Course;
 use reactions::Outcome;
 use session::Session;
 
-fn word(high: u8, low: u8) -> u16
+// Numbers stand high byte first.
+pub fn word(high: u8, low: u8) -> u16
     ensures { λ r. ⌜ r ≡ high * 256 + low ⌝ }
 {
     high as u16 * 256 + low as u16
 }
 
-fn long(a: u8, b: u8, c: u8, d: u8) -> u32
+pub fn long(a: u8, b: u8, c: u8, d: u8) -> u32
     ensures { λ r. ⌜ r ≡ a * 16777216 + b * 65536 + c * 256 + d ⌝ }
 {
     a as u32 * 16777216 + b as u32 * 65536 + c as u32 * 256 + d as u32
