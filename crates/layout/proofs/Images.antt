@@ -39,10 +39,6 @@ pub copied : (part was : List ℕ) → length was ≤ length part → take (leng
 copied part was h =
     rw (drop-of-length-le was {i = length part} h, take-all (length part) part (omega arith)) (append-nil part)
 
--- what is left after the first i bytes
-pub tail : (i : ℕ) (l : List ℕ) → take (length l - i) (drop i l) ≡ drop i l
-tail i l = take-all (length l - i) (drop i l) (rw length-drop (omega arith))
-
 -- a flag as a number
 pub as-number : (t : Bool) → boolByte t ≡ flag t
 as-number true = refl

@@ -2,13 +2,13 @@
 use mathlib.Core.Path.{_≡_, refl, sym}
 use mathlib.Core.Bool.{Bool, true, false, cond}
 use mathlib.Core.List.{List, [], _∷_}
-use Prim.Native.Nat.{ℕ, suc, _+_, _≤_, zero-le}
+use Prim.Native.Nat.{ℕ, suc, _+_, _-_, _≤_, zero-le}
 use native.Mathlib.Nat.{add-zero}
 use native.Mathlib.Omega.{arith}
 use native.Mathlib.Numerals.{towards-suc}
 use lib.Dec.{eqb}
-use lib.ListN.{length, getD, drop, drop-of-length-le}
-use lib.Seq.{drop-cons}
+use lib.ListN.{length, getD, take, drop, drop-of-length-le, length-drop}
+use lib.Seq.{drop-cons, take-all}
 use Rattle.reactions.specs.declared.Given.{Given}
 use Rattle.reactions.specs.Outcome.{outcomeOf}
 use Rattle.session.specs.Bus.{byte}
@@ -44,6 +44,10 @@ module _ (l : List ℕ) (i : ℕ) (h : i + 8 ≤ length l) where
   pub records-first : recordsOf (drop i l) ≡ recordIn (recordAt l i) ∷ recordsOf (drop (i + 8) l)
   unfolding recordsOf recordIn
   records-first = rw eight-first refl
+
+-- what is left from i on
+pub tail : (i : ℕ) (l : List ℕ) → take (length l - i) (drop i l) ≡ drop i l
+tail i l = take-all (length l - i) (drop i l) (rw length-drop (omega arith))
 
 pub turn : (p : Progress) (l : List ℕ) (i : ℕ) → i + 8 ≤ length l → going (advance p (recordAt l i)) (drop (i + 8) l) ≡ going p (drop i l)
 unfolding going

@@ -6,7 +6,8 @@ use native.Mathlib.Omega.{arith}
 use lib.ListN.{length, take, drop, length-drop}
 use denote.Ref.{now}
 use Rattle.session.specs.Machine.{zeros}
-use Rattle.layout.proofs.Images.{copied, tail}
+use Rattle.records.proofs.Turns.{tail}
+use Rattle.layout.proofs.Images.{copied}
 use borrow.Author.Needs.{needs}
 use Rattle.layout.proofs.sessions.carried_in.Statement.{statement}
 use Rattle.layout.proofs.sessions.carried_in.Tie as tie

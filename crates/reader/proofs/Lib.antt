@@ -1,0 +1,4 @@
+pub mod Held
+pub mod ByKind
+pub mod InOrder
+pub mod Agrees
