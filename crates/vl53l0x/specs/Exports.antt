@@ -1,12 +1,13 @@
 -- What the exported functions make of the bytes that they are lent.
-use mathlib.Core.Bool.{_&&_, cond}
+use mathlib.Core.Path.{_≡_}
+use mathlib.Core.Bool.{true, cond}
 use mathlib.Core.List.{List}
-use Prim.Native.Nat.{ℕ}
+use Prim.Native.Nat.{ℕ, _≤_}
 use lib.Dec.{eqb}
 use lib.ListN.{length}
 use Rattle.session.specs.declared.Answer.{Answer}
 use Rattle.session.specs.declared.Session.{Session}
-use Rattle.session.specs.Bus.{numberOf}
+use Rattle.session.specs.Bus.{byte, numberOf}
 use Rattle.session.specs.Machine.{illFormed, waitsNow}
 use Rattle.session.specs.Records.{stepDef}
 use Rattle.reactions.specs.declared.Outcome.{Outcome}
@@ -14,6 +15,7 @@ use Rattle.reactions.specs.Outcome.{outcomeOf}
 use Rattle.driver.specs.Replies.{outstandingOf}
 use Rattle.records.specs.Records.{recordIn}
 use Rattle.layout.specs.Layout.{sessionSize, outcomeSize, sessionBytes, isSession, sessionOf, transferBytes, answerBytes, outcomeBytes}
+use Rattle.layout.specs.RoundTrip.{areBytes}
 
 abbrev pub refusalBytes : Answer → List ℕ
 refusalBytes x = answerBytes (numberOf x) 0 0
@@ -48,3 +50,10 @@ outstandingBytes s =
 
 unfoldable pub outstandingIn : List ℕ → List ℕ
 outstandingIn session = cond (isSession session) (outstandingBytes (sessionOf session)) (refusalBytes Answer.IllFormedSession)
+
+-- a record that is refused, with 9 to 15, changes no byte of the session
+abbrev pub RefusalKeeps : Type 0
+RefusalKeeps =
+    (session bytes outcome : List ℕ) → areBytes session ≡ true
+    → 9 ≤ byte 0 (stepOutcome session bytes) → byte 0 (stepOutcome session bytes) ≤ 15
+    → stepSession session bytes outcome ≡ session

@@ -37,6 +37,7 @@ pub extern "C" fn vl53l0x_step(session: &mut [u8], record: &[u8], outcome: &mut 
     ensures { λ _. ⌜ now (session .exit) ≡ stepSession (now (session .entry)) (now («record» .entry)) (now (outcome .entry)) ⌝ }
     ensures { λ _. ⌜ now (outcome .exit) ≡ placed outcomeSize (now (outcome .entry)) (stepOutcome (now (session .entry)) (now («record» .entry))) ⌝ }
     ensures { λ r. ⌜ r ≡ placedNumber (now (outcome .entry)) (stepOutcome (now (session .entry)) (now («record» .entry))) ⌝ }
+    ensures { λ _. ⌜ now («record» .exit) ≡ now («record» .entry) ⌝ }
 {
     if outcome.len() != 11 {
         return 17;
@@ -73,6 +74,7 @@ fn put_outstanding(s: Session, outcome: &mut [u8]) -> u8
 pub extern "C" fn vl53l0x_outstanding(session: &[u8], outcome: &mut [u8]) -> u8
     ensures { λ _. ⌜ now (outcome .exit) ≡ placed outcomeSize (now (outcome .entry)) (outstandingIn (now (session .entry))) ⌝ }
     ensures { λ r. ⌜ r ≡ placedNumber (now (outcome .entry)) (outstandingIn (now (session .entry))) ⌝ }
+    ensures { λ _. ⌜ now (session .exit) ≡ now (session .entry) ⌝ }
 {
     if layout::is_session(session) {
         put_outstanding(layout::session_in(session), outcome)

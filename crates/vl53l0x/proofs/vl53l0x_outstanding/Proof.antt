@@ -1,5 +1,5 @@
 -- `vl53l0x::vl53l0x_outstanding` meets its contract.
-use mathlib.Core.Path.{sym, _∙_}
+use mathlib.Core.Path.{refl, sym, _∙_}
 use Rattle.layout.specs.Layout.{sessionIn}
 use Rattle.vl53l0x.specs.Exports.{outstandingIn}
 use borrow.Author.Needs.{needs}
@@ -27,7 +27,7 @@ returns c =
     let c₁ = c .before .before in
     let e = sym (c₁ .before .before .before .before .is-session .ensures) ∙ c₁ .before .before .before .if1 .taken in
     let s = rw e at (c₁ .before .before .session-in .ensures) in
-    rw e (rw s at (c₁ .put-outstanding .ensures))
+    (rw e (rw s at (c₁ .put-outstanding .ensures .0)), (rw e (rw s at (c₁ .put-outstanding .ensures .1)), refl))
 
 same-length-2 : tie.Need-same-length-2
 same-length-2 c = search needs
@@ -37,7 +37,7 @@ unfolding outstandingIn
 returns-2 c =
     let c₁ = c .before .before in
     let e = sym (c₁ .before .before .before .is-session .ensures) ∙ c₁ .before .before .if1 .left in
-    rw e (c₁ .put-refusal .ensures)
+    (rw e (c₁ .put-refusal .ensures .0), (rw e (c₁ .put-refusal .ensures .1), refl))
 
 pub vl53l0x-outstanding-spec : {M : Type 1} → statement M
 vl53l0x-outstanding-spec =

@@ -13,7 +13,7 @@ returns : tie.Need-returns
 unfolding stepOutcome stepSession
 returns c =
     let e = ne-eqb (length (now (c .before .before .before .before .args .outcome))) 11 (c .if1 .taken) in
-    (rw e refl, (rw e refl, rw e refl))
+    (rw e refl, (rw e refl, (rw e refl, refl)))
 
 put-refusal-requires : tie.Need-put-refusal-requires
 put-refusal-requires c κs = search needs
@@ -28,7 +28,7 @@ returns-2 c =
     let start = c₁ .before .before .before .before .before .before .before in
     let e = eq-eqb (length (now (start .args .outcome))) 11 (c₁ .before .before .before .if1 .left) in
     let e₂ = ne-eqb (length (now (start .args .«record»))) 8 (c₁ .before .before .if2 .taken) in
-    (rw (e, e₂) refl, rw e₂ (c₁ .put-refusal .ensures))
+    (rw (e, e₂) refl, (rw e₂ (c₁ .put-refusal .ensures .0), (rw e₂ (c₁ .put-refusal .ensures .1), refl)))
 
 is-session-requires : tie.Need-is-session-requires
 is-session-requires c κs = search needs
@@ -62,7 +62,7 @@ returns-3 c =
     let e₂ = eq-eqb (length (now (start .args .«record»))) 8 (c₁ .before .before .before .before .before .if2 .left) in
     let e₃ = sym (c₁ .before .before .before .is-session .ensures) ∙ c₁ .before .before .if3 .taken in
     let e₄ = eq-eqb (length (now (start .args .session))) 52 (fifty-two _ e₃) in
-    (rw (e, e₂, e₃) (rw (e₄, c₁ .meet .ensures) at (c₂ .put-session .ensures)), rw (e₂, e₃) (rw (c₁ .meet .ensures) at (c₃ .put-outcome .ensures)))
+    (rw (e, e₂, e₃) (rw (e₄, c₁ .meet .ensures) at (c₂ .put-session .ensures)), (rw (e₂, e₃) (rw (c₁ .meet .ensures) at (c₃ .put-outcome .ensures .0)), (rw (e₂, e₃) (rw (c₁ .meet .ensures) at (c₃ .put-outcome .ensures .1)), refl)))
 
 same-length-4 : tie.Need-same-length-4
 same-length-4 c = search needs
@@ -78,7 +78,7 @@ returns-4 c =
     let e = eq-eqb (length (now (start .args .outcome))) 11 (c₁ .before .before .before .before .before .before .if1 .left) in
     let e₂ = eq-eqb (length (now (start .args .«record»))) 8 (c₁ .before .before .before .before .before .if2 .left) in
     let e₃ = sym (c₁ .before .before .before .is-session .ensures) ∙ c₁ .before .before .if3 .left in
-    (rw (e, e₂, e₃) refl, rw (e₂, e₃) (c₁ .put-refusal2 .ensures))
+    (rw (e, e₂, e₃) refl, (rw (e₂, e₃) (c₁ .put-refusal2 .ensures .0), (rw (e₂, e₃) (c₁ .put-refusal2 .ensures .1), refl)))
 
 pub vl53l0x-step-spec : {M : Type 1} → statement M
 vl53l0x-step-spec =
