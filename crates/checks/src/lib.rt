@@ -1,6 +1,8 @@
-// Answers 15, 13 and 12: is a session well formed, are arguments in range, does a reply have stray bytes?
+// Answers 15, 13 and 12: is a session well formed, are arguments in range, does a reply have stray bytes? And small tests that others need too.
 ghost use mathlib.Core.Path.{_≡_};
 ghost use mathlib.Core.Bool.{not, _&&_, _||_};
+ghost use Prim.Native.Nat.{_+_};
+ghost use lib.Dec.{leb};
 ghost use lib.ListN.{drop};
 ghost use Rattle.session.specs.Bus.{cleanFrom};
 ghost use Rattle.session.specs.Calls.{ceilingOf, argumentsOk};
@@ -25,6 +27,19 @@ pub fn negated(p: bool) -> bool
     ensures { λ r. ⌜ r ≡ not p ⌝ }
 {
     if p { false } else { true }
+}
+
+// Are there n places from `at` on?
+pub fn has_room(length: usize, at: usize, n: usize) -> bool
+    ensures { λ r. ⌜ r ≡ leb (at + n) length ⌝ }
+{
+    if length < n {
+        return false;
+    }
+    if length - n < at {
+        return false;
+    }
+    true
 }
 
 // The greatest A and B of each call.

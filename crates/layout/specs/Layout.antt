@@ -35,15 +35,15 @@ sessionSize = 52
 abbrev pub driverBytes : Driver → List ℕ
 driverBytes d = flag (d .up) ∷ d .address ∷ d .stop ∷ longBytes (d .budget)
 
-abbrev pub callBytes : Session → List ℕ
-callBytes s =
+abbrev pub waitingBytes : Session → List ℕ
+waitingBytes s =
     (s .code ∷ longBytes (s .a)) ++ wordBytes (s .b) ++ (s .step ∷ longBytes (s .idle)) ++ longBytes (s .transfers)
 
-abbrev pub keptBytes : Session → List ℕ
-keptBytes s = (s .failed ∷ longBytes (s .own)) ++ s .carried
+abbrev pub carriedBytes : Session → List ℕ
+carriedBytes s = (s .failed ∷ longBytes (s .own)) ++ s .carried
 
 unfoldable pub sessionBytes : Session → List ℕ
-sessionBytes s = driverBytes (s .driver) ++ callBytes s ++ keptBytes s
+sessionBytes s = driverBytes (s .driver) ++ waitingBytes s ++ carriedBytes s
 
 -- bytes that are a session: as many, and the first of them is a flag
 unfoldable pub isSession : List ℕ → Bool
@@ -83,11 +83,14 @@ unfoldable pub answerBytes : ℕ → ℕ → ℕ → List ℕ
 answerBytes number value transfers = (number ∷ longBytes value) ++ longBytes transfers ++ (0 ∷ 0 ∷ [])
 
 -- a refusal has the value 0, and no call made transfers for it
+abbrev pub refusalBytes : Answer → List ℕ
+refusalBytes x = answerBytes (numberOf x) 0 0
+
 unfoldable pub givenBytes : Given → Transfer → ℕ → List ℕ
 givenBytes Given.Sent t n = transferBytes t
 givenBytes (Given.Answered x) t n = answerBytes (numberOf x) (valueOf x) n
-givenBytes (Given.Refused x) t n = answerBytes (numberOf x) 0 0
-givenBytes Given.IllFormed t n = answerBytes (numberOf Answer.IllFormedSession) 0 0
+givenBytes (Given.Refused x) t n = refusalBytes x
+givenBytes Given.IllFormed t n = refusalBytes Answer.IllFormedSession
 
 abbrev pub outcomeBytes : Outcome → List ℕ
 outcomeBytes o = givenBytes (o .given) (o .transfer) (o .transfers)

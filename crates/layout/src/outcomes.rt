@@ -3,9 +3,9 @@
 ghost use mathlib.Core.Path.{_≡_};
 ghost use Prim.Native.Nat.{_+_, _≤_};
 ghost use lib.ListN.{length};
-ghost use Rattle.session.specs.Bus.{byte, numberOf};
+ghost use Rattle.session.specs.Bus.{byte};
 ghost use Rattle.lines.specs.Put.{Put};
-ghost use Rattle.layout.specs.Layout.{transferBytes, answerBytes, outcomeBytes, outcomeSize, placed, placedNumber};
+ghost use Rattle.layout.specs.Layout.{transferBytes, answerBytes, refusalBytes, outcomeBytes, outcomeSize, placed, placedNumber};
 use crate::parts::put_byte;
 use crate::parts::put_bytes;
 use crate::parts::put_long;
@@ -79,8 +79,8 @@ pub fn put_outcome(lent: &mut [u8], o: Outcome) -> u8
 
 // A refusal: its value is 0, and no call made transfers for it.
 pub fn put_refusal(lent: &mut [u8], x: Answer) -> u8
-    ensures { λ _. ⌜ now (lent .exit) ≡ placed outcomeSize (now (lent .entry)) (answerBytes (numberOf x) 0 0) ⌝ }
-    ensures { λ r. ⌜ r ≡ placedNumber (now (lent .entry)) (answerBytes (numberOf x) 0 0) ⌝ }
+    ensures { λ _. ⌜ now (lent .exit) ≡ placed outcomeSize (now (lent .entry)) (refusalBytes x) ⌝ }
+    ensures { λ r. ⌜ r ≡ placedNumber (now (lent .entry)) (refusalBytes x) ⌝ }
 {
     if lent.len() == 11 {
         write_answer(lent, number_of(x), 0, 0)

@@ -3,7 +3,7 @@ ghost use mathlib.Core.Path.{_≡_};
 ghost use Prim.Native.Nat.{_+_, _≤_};
 ghost use lib.ListN.{length, drop};
 ghost use Rattle.lines.specs.Put.{Put};
-ghost use Rattle.layout.specs.Layout.{wordAt, longAt, driverBytes, callBytes, keptBytes, sessionBytes, isSession, sessionOf, sessionIn, sessionSize, placed};
+ghost use Rattle.layout.specs.Layout.{wordAt, longAt, driverBytes, waitingBytes, carriedBytes, sessionBytes, isSession, sessionOf, sessionIn, sessionSize, placed};
 use crate::parts::put_byte;
 use crate::parts::put_bytes;
 use crate::parts::put_long;
@@ -98,9 +98,9 @@ fn put_driver(lent: &mut [u8], at: usize, d: Driver) -> usize
     put_long(lent, next, d.budget)
 }
 
-fn put_call(lent: &mut [u8], at: usize, s: Session) -> usize
+fn put_waiting(lent: &mut [u8], at: usize, s: Session) -> usize
     requires { ⌜ at + 16 ≤ length (now lent) ⌝ }
-    ensures { λ r. ⌜ Put (now (lent .entry)) at (callBytes s) (now (lent .exit)) r ⌝ }
+    ensures { λ r. ⌜ Put (now (lent .entry)) at (waitingBytes s) (now (lent .exit)) r ⌝ }
 {
     let mut next = put_byte(lent, at, s.code);
     next = put_long(lent, next, s.a);
@@ -120,7 +120,7 @@ fn put_carried(lent: &mut [u8], at: usize, carried: [u8; 24]) -> usize
 
 fn put_kept(lent: &mut [u8], at: usize, s: Session) -> usize
     requires { ⌜ at + 29 ≤ length (now lent) ⌝ }
-    ensures { λ r. ⌜ Put (now (lent .entry)) at (keptBytes s) (now (lent .exit)) r ⌝ }
+    ensures { λ r. ⌜ Put (now (lent .entry)) at (carriedBytes s) (now (lent .exit)) r ⌝ }
     ensures { λ r. ⌜ r ≡ at + 29 ⌝ }
 {
     let carried = s.carried;
@@ -135,7 +135,7 @@ fn write(lent: &mut [u8], s: Session)
 {
     let driver = s.driver;
     let mut next = put_driver(lent, 0, driver);
-    next = put_call(lent, next, s);
+    next = put_waiting(lent, next, s);
     put_kept(lent, next, s);
 }
 

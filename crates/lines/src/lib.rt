@@ -4,7 +4,6 @@ mod digits;
 
 ghost use mathlib.Core.Path.{_≡_};
 ghost use Prim.Native.Nat.{_+_, _≤_};
-ghost use lib.Dec.{leb};
 ghost use lib.ListN.{length};
 ghost use Rattle.session.specs.Bus.{numberOf};
 ghost use Rattle.lines.specs.Lines.{transferLine, answerLine, fieldsLine, outcomeLine, flag, valueOf};
@@ -14,6 +13,7 @@ use crate::digits::put_number;
 use crate::digits::put_pair;
 use crate::digits::put_pairs;
 use crate::digits::put_small;
+use checks::has_room;
 use reactions::Given;
 use reactions::Outcome;
 use session::Answer;
@@ -123,23 +123,11 @@ fn put_fields(text: &mut [u8], at: usize, d: Driver) -> usize
     put_byte(text, next, b'\n')
 }
 
-fn has_room(length: usize, at: usize) -> bool
-    ensures { λ r. ⌜ r ≡ leb (at + 32) length ⌝ }
-{
-    if length < 32 {
-        return false;
-    }
-    if length - 32 < at {
-        return false;
-    }
-    true
-}
-
 // What a record gave.
 pub fn outcome_line(text: &mut [u8], at: usize, o: Outcome) -> usize
     ensures { λ r. ⌜ PutLine (now (text .entry)) at (outcomeLine o) (now (text .exit)) r ⌝ }
 {
-    if has_room(text.len(), at) {
+    if has_room(text.len(), at, 32) {
         put_outcome(text, at, o)
     } else {
         at
@@ -150,7 +138,7 @@ pub fn outcome_line(text: &mut [u8], at: usize, o: Outcome) -> usize
 pub fn fields_line(text: &mut [u8], at: usize, d: Driver) -> usize
     ensures { λ r. ⌜ PutLine (now (text .entry)) at (fieldsLine d) (now (text .exit)) r ⌝ }
 {
-    if has_room(text.len(), at) {
+    if has_room(text.len(), at, 32) {
         put_fields(text, at, d)
     } else {
         at

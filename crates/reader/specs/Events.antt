@@ -1,4 +1,5 @@
 -- The events that a reader over lent records gives: the records in order, and then their end or spare bytes.
+-- 01: "A reader over the lent records gives the next event"
 use mathlib.Core.Path.{_≡_}
 use mathlib.Core.Bool.{Bool, true, false, cond}
 use mathlib.Core.List.{List, [], _∷_, _++_, map}

@@ -1,11 +1,9 @@
 // What stands at a place of lent records.
 ghost use mathlib.Core.Path.{_≡_};
-ghost use Prim.Native.Nat.{_+_};
-ghost use lib.Dec.{leb};
-ghost use lib.ListN.{length};
 ghost use Rattle.records.specs.Records.{recordIn};
 ghost use Rattle.reader.specs.Events.{eventOf, eventAt, placeAfter};
 use crate::Event;
+use checks::has_room;
 
 fn event_of(record: [u8; 8]) -> Event
     ensures { λ r. ⌜ r ≡ eventOf (recordIn «record») ⌝ }
@@ -31,23 +29,10 @@ fn event_of(record: [u8; 8]) -> Event
     }
 }
 
-// Are there eight bytes from a place on?
-fn has_record(length: usize, at: usize) -> bool
-    ensures { λ r. ⌜ r ≡ leb (at + 8) length ⌝ }
-{
-    if length < 8 {
-        return false;
-    }
-    if length - 8 < at {
-        return false;
-    }
-    true
-}
-
 pub fn event_at(lent: &[u8], at: usize) -> Event
     ensures { λ r. ⌜ r ≡ eventAt at (now (lent .entry)) ⌝ }
 {
-    if has_record(lent.len(), at) {
+    if has_room(lent.len(), at, 8) {
         event_of(records::record_at(lent, at))
     } else if lent.len() <= at {
         Event::End
@@ -59,7 +44,7 @@ pub fn event_at(lent: &[u8], at: usize) -> Event
 pub fn place_after(lent: &[u8], at: usize) -> usize
     ensures { λ r. ⌜ r ≡ placeAfter at (now (lent .entry)) ⌝ }
 {
-    if has_record(lent.len(), at) {
+    if has_room(lent.len(), at, 8) {
         at + 8
     } else {
         at

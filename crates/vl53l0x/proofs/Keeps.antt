@@ -15,10 +15,10 @@ use Rattle.session.specs.Records.{stepDef}
 use Rattle.session.proofs.Demand1.{demand-1}
 use Rattle.reactions.specs.Outcome.{outcomeOf}
 use Rattle.records.specs.Records.{recordIn}
-use Rattle.layout.specs.Layout.{sessionBytes, isSession, sessionOf, sessionIn, transferBytes, answerBytes, givenBytes, outcomeBytes}
+use Rattle.layout.specs.Layout.{sessionBytes, isSession, sessionOf, sessionIn, transferBytes, answerBytes, refusalBytes, givenBytes, outcomeBytes}
 use Rattle.layout.specs.RoundTrip.{areBytes}
 use Rattle.layout.proofs.RoundTrip.{round-trip}
-use Rattle.vl53l0x.specs.Exports.{refusalBytes, met, stepOutcome, stepSession, RefusalKeeps}
+use Rattle.vl53l0x.specs.Exports.{met, stepOutcome, stepSession, RefusalKeeps}
 
 -- what is neither a transfer nor an answer of a call leaves the session
 kept : (s : Session) (o : Result) → Single s o → 9 ≤ byte 0 (outcomeBytes (outcomeOf o)) → byte 0 (outcomeBytes (outcomeOf o)) ≤ 15 → outcomeOf o .session ≡ s

@@ -14,11 +14,8 @@ use Rattle.reactions.specs.declared.Outcome.{Outcome}
 use Rattle.reactions.specs.Outcome.{outcomeOf}
 use Rattle.driver.specs.Replies.{outstandingOf}
 use Rattle.records.specs.Records.{recordIn}
-use Rattle.layout.specs.Layout.{sessionSize, outcomeSize, sessionBytes, isSession, sessionOf, transferBytes, answerBytes, outcomeBytes}
+use Rattle.layout.specs.Layout.{sessionSize, outcomeSize, sessionBytes, isSession, sessionOf, transferBytes, refusalBytes, outcomeBytes}
 use Rattle.layout.specs.RoundTrip.{areBytes}
-
-abbrev pub refusalBytes : Answer → List ℕ
-refusalBytes x = answerBytes (numberOf x) 0 0
 
 -- what a session is given for a record
 unfoldable pub met : List ℕ → List ℕ → Outcome

@@ -1,6 +1,5 @@
 -- `steps::shapes::shape_of` meets its contract.
 use borrow.Author.Needs.{needs}
-use Rattle.steps.specs.Steps.{shapeOf}
 use Rattle.steps.proofs.Cases.{cases}
 use Rattle.steps.proofs.shapes.shape_of.Statement.{statement}
 use Rattle.steps.proofs.shapes.shape_of.Tie as tie
@@ -192,123 +191,93 @@ range-shape-requires : tie.Need-range-shape-requires
 range-shape-requires c κs = search needs
 
 returns : tie.Need-returns
-unfolding shapeOf
 returns c = search cases
 
 returns-2 : tie.Need-returns-2
-unfolding shapeOf
 returns-2 c = search cases
 
 returns-3 : tie.Need-returns-3
-unfolding shapeOf
 returns-3 c = search cases
 
 returns-4 : tie.Need-returns-4
-unfolding shapeOf
 returns-4 c = search cases
 
 returns-5 : tie.Need-returns-5
-unfolding shapeOf
 returns-5 c = search cases
 
 returns-6 : tie.Need-returns-6
-unfolding shapeOf
 returns-6 c = search cases
 
 returns-7 : tie.Need-returns-7
-unfolding shapeOf
 returns-7 c = search cases
 
 returns-8 : tie.Need-returns-8
-unfolding shapeOf
 returns-8 c = search cases
 
 returns-9 : tie.Need-returns-9
-unfolding shapeOf
 returns-9 c = search cases
 
 returns-10 : tie.Need-returns-10
-unfolding shapeOf
 returns-10 c = search cases
 
 returns-11 : tie.Need-returns-11
-unfolding shapeOf
 returns-11 c = search cases
 
 returns-12 : tie.Need-returns-12
-unfolding shapeOf
 returns-12 c = search cases
 
 returns-13 : tie.Need-returns-13
-unfolding shapeOf
 returns-13 c = search cases
 
 returns-14 : tie.Need-returns-14
-unfolding shapeOf
 returns-14 c = search cases
 
 returns-15 : tie.Need-returns-15
-unfolding shapeOf
 returns-15 c = search cases
 
 returns-16 : tie.Need-returns-16
-unfolding shapeOf
 returns-16 c = search cases
 
 returns-17 : tie.Need-returns-17
-unfolding shapeOf
 returns-17 c = search cases
 
 returns-18 : tie.Need-returns-18
-unfolding shapeOf
 returns-18 c = search cases
 
 returns-19 : tie.Need-returns-19
-unfolding shapeOf
 returns-19 c = search cases
 
 returns-20 : tie.Need-returns-20
-unfolding shapeOf
 returns-20 c = search cases
 
 returns-21 : tie.Need-returns-21
-unfolding shapeOf
 returns-21 c = search cases
 
 returns-22 : tie.Need-returns-22
-unfolding shapeOf
 returns-22 c = search cases
 
 returns-23 : tie.Need-returns-23
-unfolding shapeOf
 returns-23 c = search cases
 
 returns-24 : tie.Need-returns-24
-unfolding shapeOf
 returns-24 c = search cases
 
 returns-25 : tie.Need-returns-25
-unfolding shapeOf
 returns-25 c = search cases
 
 returns-26 : tie.Need-returns-26
-unfolding shapeOf
 returns-26 c = search cases
 
 returns-27 : tie.Need-returns-27
-unfolding shapeOf
 returns-27 c = search cases
 
 returns-28 : tie.Need-returns-28
-unfolding shapeOf
 returns-28 c = search cases
 
 returns-29 : tie.Need-returns-29
-unfolding shapeOf
 returns-29 c = search cases
 
 returns-30 : tie.Need-returns-30
-unfolding shapeOf
 returns-30 c = search cases
 
 pub shape-of-spec : {M : Type 1} → statement M

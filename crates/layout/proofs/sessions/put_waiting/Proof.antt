@@ -1,8 +1,8 @@
--- `layout::sessions::put_call` meets its contract.
+-- `layout::sessions::put_waiting` meets its contract.
 use Rattle.lines.proofs.Putting.{then}
 use borrow.Author.Needs.{needs}
-use Rattle.layout.proofs.sessions.put_call.Statement.{statement}
-use Rattle.layout.proofs.sessions.put_call.Tie as tie
+use Rattle.layout.proofs.sessions.put_waiting.Statement.{statement}
+use Rattle.layout.proofs.sessions.put_waiting.Tie as tie
 
 put-byte-requires : tie.Need-put-byte-requires
 put-byte-requires c κs = search needs
@@ -35,8 +35,8 @@ returns c =
     let c₁ = c₂ .before .before .before in
     then (c₁ .before .before .before .before .before .put-byte .ensures) (then (c₂ .before .before .before .before .put-long .ensures) (then (c₃ .before .before .before .put-word .ensures) (then (c₄ .before .before .put-byte2 .ensures) (then (c₅ .before .put-long2 .ensures) (c₆ .put-long3 .ensures)))))
 
-pub put-call-spec : {M : Type 1} → statement M
-put-call-spec =
+pub put-waiting-spec : {M : Type 1} → statement M
+put-waiting-spec =
     tie.close
     (tie.spec
     put-byte-requires
