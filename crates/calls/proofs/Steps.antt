@@ -4,16 +4,13 @@ use mathlib.Core.List.{List, [], _∷_, _++_, map}
 use Prim.Native.Nat.{ℕ, zero, suc, _+_, _-_, _≤_, _<_}
 use native.Mathlib.Nat.{le-of-suc-le-suc, not-suc-le-zero}
 use native.Mathlib.Omega.{arith}
-use lib.ListN.{length, getD, List·getD-eq-default}
+use lib.ListN.{length, getD}
 use lib.Seq.{getD-append-add}
 use Rattle.session.specs.declared.Instruction.{Instruction}
 use Rattle.session.specs.Calls.{rows}
+use Rattle.session.proofs.Facts.{past}
 use Rattle.calls.specs.Calls.{stepOf}
 use Rattle.calls.specs.Parts.{rowBytes}
-
--- past the end of a table
-pub past : {A : Type 0} (l : List A) (i : ℕ) (d : A) → length l ≤ i → d ≡ getD l i d
-past l i d h = sym (List·getD-eq-default l d h)
 
 -- within it what stands for the part past its end does not matter
 pub any-default : {A : Type 0} (l : List A) (i : ℕ) (d e : A) → i < length l → getD l i d ≡ getD l i e

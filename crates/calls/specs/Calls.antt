@@ -44,3 +44,22 @@ instructionAt code step = stepOf (programOf code .steps) step
 
 unfoldable pub stepsIn : ℕ → ℕ
 stepsIn code = length (programOf code .steps)
+
+-- the greatest A that a call can store or answer: as a byte, as a word, or any
+unfoldable pub mostFor : Call → ℕ
+mostFor Call.Nothing = 4294967295
+mostFor Call.WithAddress = 255
+mostFor Call.WhoAmI = 4294967295
+mostFor Call.SetAddress = 255
+mostFor Call.StartContinuous = 4294967295
+mostFor Call.StopContinuous = 4294967295
+mostFor Call.ReadRangeMm = 4294967295
+mostFor Call.ReadRangeContinuous = 4294967295
+mostFor Call.ReadRangeSingle = 4294967295
+mostFor Call.SetBudget = 4294967295
+mostFor Call.SetThresholds = 65535
+mostFor Call.GetThresholds = 4294967295
+mostFor Call.SetGpioConfig = 4294967295
+mostFor Call.ClearInterruptStatus = 4294967295
+mostFor Call.SetSignalRateLimit = 4294967295
+mostFor Call.GetBudget = 4294967295

@@ -18,9 +18,8 @@ use Rattle.session.specs.Machine.{idleWrong, upWrong, malformed, illFormed}
 use Rattle.session.proofs.Facts.{or-parts, both, untrue}
 use Rattle.session.proofs.Table.{by-code, below-pass}
 use Rattle.session.proofs.Strays.{sound-step}
-use Rattle.calls.specs.Calls.{calls, callOf, stepOf, instructionAt, stepsIn}
+use Rattle.calls.specs.Calls.{calls, callOf, stepOf, instructionAt, stepsIn, mostFor}
 use Rattle.steps.specs.Steps.{shapeOf, mostAt}
-use Rattle.steps.specs.Ends.{mostFor}
 use Rattle.checks.specs.Sound.{Sound, limitOf, kindAt, idleAt, malformedAt, illFormedAt}
 
 module _ (f : Instruction → Op) where

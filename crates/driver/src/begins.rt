@@ -24,7 +24,7 @@ fn launch(s: Session) -> Course
     requires { ⌜ Sound s ⌝ }
     ensures { λ r. ⌜ Reaches r (launching s) ⌝ }
 {
-    let way = way_of(steps::entry(calls::call_of(s.code), s), 0, 0);
+    let way = way_of(ends::entry(calls::call_of(s.code), s), 0, 0);
     Course {
         way,
         at: Instruction::Nowhere,

@@ -15,7 +15,7 @@ fn word_at(lent: &[u8], at: usize) -> u16
     requires { ⌜ at + 2 ≤ length (now lent) ⌝ }
     ensures { λ r. ⌜ r ≡ wordAt at (now (lent .entry)) ⌝ }
 {
-    records::word(lent[at], lent[at + 1])
+    timing::word(lent[at], lent[at + 1])
 }
 
 fn long_at(lent: &[u8], at: usize) -> u32

@@ -7,7 +7,7 @@ use Rattle.session.specs.declared.Session.{Session}
 use Rattle.session.specs.declared.Instruction.{Instruction}
 use Rattle.steps.specs.declared.Kind.{Kind}
 use Rattle.steps.specs.declared.Next.{Next}
-use Rattle.steps.specs.declared.End.{End}
+use Rattle.ends.specs.declared.End.{End}
 use Rattle.reactions.specs.declared.Way.{Way}
 use Rattle.reactions.specs.declared.Plan.{Plan}
 use Rattle.reactions.specs.declared.Outcome.{Outcome}

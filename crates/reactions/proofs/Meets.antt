@@ -20,7 +20,7 @@ use Rattle.calls.proofs.Programs.{program-named}
 use Rattle.steps.specs.declared.Kind.{Kind}
 use Rattle.steps.specs.declared.Shape.{Shape}
 use Rattle.steps.specs.Steps.{mostAt, shapeOf, settled, ownOf, keeping}
-use Rattle.steps.specs.Ends.{endOf}
+use Rattle.ends.specs.Ends.{endOf}
 use Rattle.checks.specs.Sound.{Sound, limitOf}
 use Rattle.checks.proofs.Places.{at-step, past-end, written-fits}
 use Rattle.reactions.specs.declared.Way.{Way}

@@ -16,7 +16,7 @@ use Rattle.session.specs.Machine.{Outcome as Result, sent, refused, broken, con
 use Rattle.calls.specs.Calls.{instructionAt, stepsIn}
 use Rattle.steps.specs.declared.Kind.{Kind}
 use Rattle.steps.specs.declared.Next.{Next}
-use Rattle.steps.specs.declared.End.{End}
+use Rattle.ends.specs.declared.End.{End}
 use Rattle.steps.specs.declared.Shape.{Shape}
 use Rattle.steps.specs.Steps.{shapeOf, mostAt, verdictOf, settled, keeping}
 use Rattle.checks.specs.Sound.{Sound, limitOf}

@@ -11,12 +11,12 @@ ghost use Rattle.reactions.specs.Reactions.{moves, SoundIf, mostIn, endi
 use crate::Given;
 use crate::Outcome;
 use crate::Plan;
+use ends::End;
 use session::Answer;
 use session::Driver;
 use session::Instruction;
 use session::Session;
 use session::Transfer;
-use steps::End;
 
 // All that a call carried becomes zero.
 pub fn resting(driver: Driver) -> Session
@@ -88,7 +88,7 @@ pub fn transfer_of(i: Instruction, s: Session) -> Transfer
     requires { ⌜ s .a ≤ mostAt i ⌝ }
     ensures { λ r. ⌜ r ≡ sendOf (opOf i) (contextOf s) ⌝ }
 {
-    steps::transfer_to(address_of(s), i, s)
+    transfers::transfer_to(address_of(s), i, s)
 }
 
 fn send(i: Instruction, step: u8, idle: u32, s: Session) -> Outcome
@@ -134,7 +134,7 @@ fn conclude(s: Session) -> Outcome
     requires { ⌜ Sound s ⌝ }
     ensures { λ r. ⌜ r ≡ outcomeOf (concluding s) ⌝ }
 {
-    end(steps::final_of(calls::call_of(s.code), s), s)
+    end(ends::final_of(calls::call_of(s.code), s), s)
 }
 
 // A refusal keeps the session.

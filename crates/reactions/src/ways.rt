@@ -58,7 +58,7 @@ fn waiting(idle: bool, limit: u32, s: Session) -> Way
 fn decided(i: Instruction, over: u8, s: Session) -> Way
     ensures { λ r. ⌜ r ≡ decidedBy (opOf i) over s ⌝ }
 {
-    way_of(steps::verdict(i, s), over, s.step as u16 + 1)
+    way_of(verdicts::verdict(i, s), over, s.step as u16 + 1)
 }
 
 // Does a good reply decide where the call goes, and not how long it waits?

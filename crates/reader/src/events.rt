@@ -12,7 +12,7 @@ fn event_of(record: [u8; 8]) -> Event
         Event::Call(
             record[1],
             records::long(record[2], record[3], record[4], record[5]),
-            records::word(record[6], record[7]),
+            timing::word(record[6], record[7]),
         )
     } else if record[0] == 2 {
         Event::Reply(

@@ -5,7 +5,6 @@ mod runs;
 pub use one::long;
 pub use one::record_at;
 pub use one::step;
-pub use one::word;
 pub use runs::run;
 pub use runs::run_fresh;
 use session::Answer;

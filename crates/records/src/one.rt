@@ -10,13 +10,7 @@ use reactions::Course;
 use reactions::Outcome;
 use session::Session;
 
-// Numbers stand high byte first.
-pub fn word(high: u8, low: u8) -> u16
-    ensures { λ r. ⌜ r ≡ high * 256 + low ⌝ }
-{
-    high as u16 * 256 + low as u16
-}
-
+// Four bytes as a number, high byte first.
 pub fn long(a: u8, b: u8, c: u8, d: u8) -> u32
     ensures { λ r. ⌜ r ≡ a * 16777216 + b * 65536 + c * 256 + d ⌝ }
 {
@@ -61,7 +55,7 @@ fn course_of(s: Session, record: [u8; 8]) -> Course
             s,
             record[1],
             long(record[2], record[3], record[4], record[5]),
-            word(record[6], record[7]),
+            timing::word(record[6], record[7]),
         )
     } else if record[0] == 2 {
         driver::reply_course(

@@ -2,9 +2,9 @@
 use mathlib.Core.Path.{_≡_, refl, sym, ap, _∙_}
 use mathlib.Core.Bool.{Bool, true, false, not, _||_, _&&_, cond}
 use mathlib.Core.List.{List, [], _∷_}
-use Prim.Native.Nat.{ℕ, zero, suc}
+use Prim.Native.Nat.{ℕ, zero, suc, _≤_}
 use native.Mathlib.Omega.{arith}
-use lib.ListN.{take, drop}
+use lib.ListN.{length, getD, take, drop, List·getD-eq-default}
 
 -- a branch, with what its test tells
 pub cond-case {ℓ} : {A : Type 0} (P : A → Type ℓ) (b : Bool) {x y : A} → (b ≡ true → P x) → (b ≡ false → P y) → P (cond b x y)
@@ -49,3 +49,7 @@ untrue h = clash cc
 pub or-parts : (a b : Bool) → a || b ≡ false → (a ≡ false) × (b ≡ false)
 or-parts true b h = untrue (sym h)
 or-parts false b h = (refl, h)
+
+-- past the end of a table
+pub past : {A : Type 0} (l : List A) (i : ℕ) (d : A) → length l ≤ i → d ≡ getD l i d
+past l i d h = sym (List·getD-eq-default l d h)

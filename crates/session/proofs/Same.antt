@@ -1,7 +1,7 @@
 -- The instructions of each call, each test made once, are its Rust function.
 use mathlib.Core.Path.{_≡_, refl, fun-ext}
 use mathlib.Core.Bool.{Bool, true, false, not}
-use mathlib.Core.List.{[], _∷_, map}
+use mathlib.Core.List.{List, [], _∷_, map}
 use Prim.Native.Nat.{ℕ}
 use lib.Dec.{eqb, ltb}
 use Rattle.spad.specs.Map.{bitsOf, byteOf, selected}
@@ -13,8 +13,9 @@ use Rattle.session.specs.Instructions.{Context}
 use Rattle.session.specs.Calls.{tuning, programs, programOf}
 use Rattle.session.specs.Machine.{zeros}
 use Rattle.session.specs.Script.{Script}
+use Rattle.session.specs.RustFn.{Fn, _>>_, Ok, write-byte}
 use Rattle.session.specs.RustClocks.{limit-contained}
-use Rattle.session.specs.RustBringUp.{enable-ref-spads, calls, rust}
+use Rattle.session.specs.RustBringUp.{enable-ref-spads, load-tuning-settings, calls, rust}
 use Rattle.session.specs.Left.{decided, resume}
 use Rattle.session.proofs.Once.{onceOf}
 use Rattle.session.proofs.Formulas.{period-is}
@@ -36,9 +37,22 @@ spads-are =
     fun-ext (λ count. fun-ext (λ aperture. fun-ext (λ bytes.
     loop-selects (byte 0 bytes) (byte 1 bytes) (byte 2 bytes) (byte 3 bytes) (byte 4 bytes) (byte 5 bytes) count aperture)))
 
-pub same-1 : (d : Driver) (a b : ℕ) → script 1 (fresh 1 absent a a b) ≡ rust d 1 a b
+-- the tuning list, a write for each row
+abbrev writes : List (ℕ × ℕ) → Fn Unit
+writes [] = Ok tt
+writes (x ∷ xs) = write-byte (x .0) (x .1) >> writes xs
+
+tuning-is : load-tuning-settings ≡ writes tuning
+unfolding load-tuning-settings tuning
+tuning-is = refl
+
+from-1 : (d : Driver) (a b : ℕ) (x : Script) → x ≡ script 1 (fresh 1 absent a a b) → x ≡ rust d 1 a b
 unfolding programOf programs rust calls idleOn tuning entriesOf lessPlace orByte eachBit bitsOf byteOf
-same-1 d a b = rw (or-is, and-is) (rw (no-interrupt-is, spad-count-is) (rw (aperture-is, spads-are) (rw (quarter-in, quarter-word) (rw get-is (rw set-is)))))
+from-1 d a b x e =
+    rw (or-is, and-is, no-interrupt-is, spad-count-is, aperture-is) (rw (spads-are, quarter-in, quarter-word, get-is, set-is) (rw tuning-is e))
+
+pub same-1 : (d : Driver) (a b : ℕ) → script 1 (fresh 1 absent a a b) ≡ rust d 1 a b
+same-1 d a b = from-1 d a b (script 1 (fresh 1 absent a a b)) refl
 
 pub same-2 : (d : Driver) (a b : ℕ) → script 2 (fresh 2 d (d .address) a b) ≡ rust d 2 a b
 unfolding programOf programs rust calls

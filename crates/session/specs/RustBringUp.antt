@@ -55,32 +55,9 @@ enable-ref-spads spad-count spad-type-is-aperture bytes =
     enable-spads spad-count spad-type-is-aperture
     (byte 0 bytes % 256 ∷ byte 1 bytes % 256 ∷ byte 2 bytes % 256 ∷ byte 3 bytes % 256 ∷ byte 4 bytes % 256 ∷ byte 5 bytes % 256 ∷ [])
 
--- lib.rs 399, init_hardware: `power_on` does nothing, and `io_mode2v8` is always true. 0x3E800000 is 0.25
-abbrev pub init-hardware : Fn Unit
-init-hardware = do
-  ext-sup-hv ← read-register VHV-CONFIG-PAD-SCL-SDA-EXTSUP-HV
-  write-byte VHV-CONFIG-PAD-SCL-SDA-EXTSUP-HV (or-u8 ext-sup-hv 0x01)
-  write-byte 0x88 0x00
-  write-byte 0x80 0x01
-  write-byte 0xFF 0x01
-  write-byte 0x00 0x00
-  stop-variable ← read-register 0x91
-  set-self-stop-variable stop-variable
-  write-byte 0x00 0x01
-  write-byte 0xFF 0x00
-  write-byte 0x80 0x00
-  config ← read-register MSRC-CONFIG-CONTROL
-  write-byte MSRC-CONFIG-CONTROL (or-u8 config 0x12)
-  set-signal-rate-limit 0x3E800000
-  write-byte SYSTEM-SEQUENCE-CONFIG 0xFF
-  spad ← get-spad-info
-  ref-spad-map ← read-6bytes GLOBAL-CONFIG-SPAD-ENABLES-REF-0
-  write-byte 0xFF 0x01
-  write-byte DYNAMIC-SPAD-REF-EN-START-OFFSET 0x00
-  write-byte DYNAMIC-SPAD-NUM-REQUESTED-REF-SPAD 0x2C
-  write-byte 0xFF 0x00
-  write-byte GLOBAL-CONFIG-REF-EN-START-SELECT 0xB4
-  write-6bytes GLOBAL-CONFIG-SPAD-ENABLES-REF-0 (enable-ref-spads (spad .0) (spad .1) ref-spad-map)
+-- lib.rs 479: from `load_tuning_settings() begin` to its end
+unfoldable pub load-tuning-settings : Fn Unit
+load-tuning-settings = do
   write-byte 0xFF 0x01
   write-byte 0x00 0x00
   write-byte 0xFF 0x00
@@ -161,6 +138,35 @@ init-hardware = do
   write-byte 0x00 0x01
   write-byte 0xFF 0x00
   write-byte 0x80 0x00
+  Ok tt
+
+-- lib.rs 399, init_hardware: `power_on` does nothing, and `io_mode2v8` is always true. 0x3E800000 is 0.25
+abbrev pub init-hardware : Fn Unit
+init-hardware = do
+  ext-sup-hv ← read-register VHV-CONFIG-PAD-SCL-SDA-EXTSUP-HV
+  write-byte VHV-CONFIG-PAD-SCL-SDA-EXTSUP-HV (or-u8 ext-sup-hv 0x01)
+  write-byte 0x88 0x00
+  write-byte 0x80 0x01
+  write-byte 0xFF 0x01
+  write-byte 0x00 0x00
+  stop-variable ← read-register 0x91
+  set-self-stop-variable stop-variable
+  write-byte 0x00 0x01
+  write-byte 0xFF 0x00
+  write-byte 0x80 0x00
+  config ← read-register MSRC-CONFIG-CONTROL
+  write-byte MSRC-CONFIG-CONTROL (or-u8 config 0x12)
+  set-signal-rate-limit 0x3E800000
+  write-byte SYSTEM-SEQUENCE-CONFIG 0xFF
+  spad ← get-spad-info
+  ref-spad-map ← read-6bytes GLOBAL-CONFIG-SPAD-ENABLES-REF-0
+  write-byte 0xFF 0x01
+  write-byte DYNAMIC-SPAD-REF-EN-START-OFFSET 0x00
+  write-byte DYNAMIC-SPAD-NUM-REQUESTED-REF-SPAD 0x2C
+  write-byte 0xFF 0x00
+  write-byte GLOBAL-CONFIG-REF-EN-START-SELECT 0xB4
+  write-6bytes GLOBAL-CONFIG-SPAD-ENABLES-REF-0 (enable-ref-spads (spad .0) (spad .1) ref-spad-map)
+  load-tuning-settings
   set-gpio-config 0 0
   mtbm ← get-measurement-timing-budget
   set-self-budget mtbm

@@ -1,4 +1,4 @@
--- What the code needs of an instruction, as plain data: its shape, its transfer, what is kept of its reply, and what a good reply decides.
+-- What the code needs of an instruction, as plain data: its shape, what is kept of its reply, and what a good reply decides.
 -- Each is read off the session's definition of the instruction, `opOf`.
 use mathlib.Core.Bool.{not, cond}
 use mathlib.Core.List.{List}
@@ -95,22 +95,6 @@ settled onward = Next.Onward
 settled leap = Next.Leap
 settled (stop x) = Next.Stop (stopAnswer x)
 settled (test b v w) = cond b (settled v) (settled w)
-
--- the verdicts of the instructions that have one of their own
-abbrev pub identified : ℕ → Verdict
-identified b = test (eqb b 0xEE) onward (stop (wrongDevice b))
-
-abbrev pub prepared : ℕ → Verdict
-prepared period = test (not (eqb period 0)) onward leap
-
-abbrev pub ready : ℕ → Verdict
-ready status = test (eqb (status % 8) 0) (stop unready) onward
-
-abbrev pub stepsWritten : ℕ → Verdict
-stepsWritten own = test (tooShort own) leap onward
-
-unfoldable pub timedNext : ℕ → Next
-timedNext period = cond (ltb 4294967295 period) (Next.Stop (Answer.Panic 1)) Next.Onward
 
 -- the budget, once the last of the first six budget replies is kept
 unfoldable pub ownOf : ℕ → List ℕ → ℕ → ℕ

@@ -1,21 +1,18 @@
-// What an instruction is to a session: its shape, its transfer, what is kept of its reply and what a good reply decides;
-// and the two ends of a call.
-mod ends;
+// What an instruction is to a session: its shape, what is kept of its reply, and values of what is kept.
 mod kept;
 mod shapes;
-mod transfers;
 mod values;
-mod verdicts;
 
-pub use ends::entry;
-pub use ends::final_of;
 pub use kept::keep;
 use session::Answer;
-use session::Driver;
 pub use shapes::shape_of;
-pub use transfers::transfer_to;
+pub use shapes::timing_length;
+pub use shapes::timing_register;
 pub use values::held;
-pub use verdicts::verdict;
+pub use values::oscillator_word;
+pub use values::timed_period;
+pub use values::timing_in;
+pub use values::word_to_set;
 
 pub enum Kind {
     Write,
@@ -42,10 +39,4 @@ pub enum Next {
     Onward,
     Leap,
     Stop(Answer),
-}
-
-// How a call ends after its last instruction: a value and the driver's fields, or the code of a failed range read.
-pub enum End {
-    Success(u32, Driver),
-    Failure(u8),
 }

@@ -47,7 +47,7 @@ fn awaiting(kind: Kind, register: u8) -> Shape
 const TIMING_REGISTERS: [u8; 7] = [0x00, 0x01, 0x51, 0x71, 0x50, 0x46, 0x70];
 
 // The register of a budget read, by its number from 1 on.
-pub(crate) fn timing_register(n: u8) -> u8
+pub fn timing_register(n: u8) -> u8
     ensures { λ r. ⌜ r ≡ timingRegister n ⌝ }
 {
     let i = n as usize;
@@ -56,7 +56,7 @@ pub(crate) fn timing_register(n: u8) -> u8
 
 const TIMING_LENGTHS: [u8; 7] = [0, 1, 2, 2, 1, 1, 1];
 
-pub(crate) fn timing_length(n: u8) -> u8
+pub fn timing_length(n: u8) -> u8
     ensures { λ r. ⌜ r ≡ timingLength n ⌝ }
 {
     let i = n as usize;

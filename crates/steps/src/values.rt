@@ -4,31 +4,22 @@ ghost use mathlib.Core.Bool.{cond};
 ghost use Prim.Native.Nat.{_*_};
 ghost use lib.Dec.{eqb};
 ghost use lib.ListN.{getD};
-ghost use Rattle.spad.specs.Masks.{orByte, andByte};
-ghost use Rattle.timing.specs.Registers.{wordOf};
 ghost use Rattle.session.specs.Instructions.{bytesFrom, timingIn, budgetIn};
-ghost use Rattle.session.specs.Steps.{slotWord, rateIn, wordIn, budgetToSet, wordToSet, newMap};
+ghost use Rattle.session.specs.Steps.{slotWord, budgetToSet, wordToSet};
 ghost use Rattle.session.specs.Machine.{heldBy, contextOf};
 use budget::DssTerm;
 use budget::WordOr;
 use clock::Microseconds;
-use rate::RateWord;
 use session::Driver;
 use session::Session;
 use timing::TimingRegisters;
 
 // A carried byte; past the end there is none.
-pub(crate) fn carried_byte(carried: [u8; 24], k: u32) -> u8
+fn carried_byte(carried: [u8; 24], k: u32) -> u8
     ensures { λ r. ⌜ r ≡ getD carried k 0 ⌝ }
 {
     let i = k as usize;
     if i < 24 { carried[i] } else { 0 }
-}
-
-pub(crate) fn word(high: u8, low: u8) -> u16
-    ensures { λ r. ⌜ r ≡ wordOf high low ⌝ }
-{
-    (high as u16) * 256 + (low as u16)
 }
 
 // The driver's fields that a call leaves if it does not succeed: a bring-up leaves none.
@@ -65,7 +56,7 @@ fn eight_bytes(slot: u8, carried: [u8; 24]) -> [u8; 8]
 }
 
 // The six budget replies that are carried from a slot on.
-pub(crate) fn timing_in(slot: u8, carried: [u8; 24]) -> TimingRegisters
+pub fn timing_in(slot: u8, carried: [u8; 24]) -> TimingRegisters
     ensures { λ r. ⌜ r ≡ timingIn slot carried ⌝ }
 {
     timing::timing_registers(eight_bytes(slot, carried))
@@ -85,7 +76,7 @@ fn budget_to_set(slot: u8, s: Session) -> u32
     if slot == 16 { s.own } else { s.a }
 }
 
-pub(crate) fn word_to_set(slot: u8, s: Session) -> WordOr
+pub fn word_to_set(slot: u8, s: Session) -> WordOr
     ensures { λ r. ⌜ r ≡ wordToSet slot (contextOf s) ⌝ }
 {
     let carried = s.carried;
@@ -96,33 +87,14 @@ pub(crate) fn word_to_set(slot: u8, s: Session) -> WordOr
     )
 }
 
-pub(crate) fn word_in(word: WordOr) -> u16
-    ensures { λ r. ⌜ r ≡ wordIn word ⌝ }
-{
-    match word {
-        WordOr::Word(w) => w,
-        WordOr::NoTime => 0,
-        WordOr::Place(_p) => 0,
-    }
-}
-
-pub(crate) fn rate_in(rate: RateWord) -> u16
-    ensures { λ r. ⌜ r ≡ rateIn rate ⌝ }
-{
-    match rate {
-        RateWord::Word(w) => w,
-        RateWord::Refused => 0,
-    }
-}
-
-pub(crate) fn oscillator_word(s: Session) -> u16
+pub fn oscillator_word(s: Session) -> u16
     ensures { λ r. ⌜ r ≡ slotWord 8 (contextOf s) ⌝ }
 {
-    word(s.carried[8], s.carried[9])
+    timing::word(s.carried[8], s.carried[9])
 }
 
 // An oscillator word of 0 leaves the period. In 64 bits it always fits.
-pub(crate) fn timed_period(period: u32, oscillator: u16) -> u64
+pub fn timed_period(period: u32, oscillator: u16) -> u64
     ensures { λ r. ⌜ r ≡ cond (eqb oscillator 0) period (period * oscillator) ⌝ }
 {
     if oscillator == 0 {
@@ -130,32 +102,4 @@ pub(crate) fn timed_period(period: u32, oscillator: u16) -> u64
     } else {
         period as u64 * oscillator as u64
     }
-}
-
-pub(crate) fn or_byte(x: u8, mask: u8) -> u8
-    ensures { λ r. ⌜ r ≡ orByte x mask ⌝ }
-{
-    x | mask
-}
-
-pub(crate) fn and_byte(x: u8, mask: u8) -> u8
-    ensures { λ r. ⌜ r ≡ andByte x mask ⌝ }
-{
-    x & mask
-}
-
-// The new detector map: the count stands in the low seven bits of the byte of 0x92, the aperture flag above them.
-pub(crate) fn new_map(s: Session) -> [u8; 6]
-    ensures { λ r. ⌜ r ≡ newMap (contextOf s) ⌝ }
-{
-    let info = s.carried[3];
-    let map = [
-        s.carried[16],
-        s.carried[17],
-        s.carried[18],
-        s.carried[19],
-        s.carried[20],
-        s.carried[21],
-    ];
-    spad::select_spads(map, info % 128, info / 128 % 2 != 0).map
 }

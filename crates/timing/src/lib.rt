@@ -7,6 +7,7 @@ mod timeouts;
 pub use places::first_place;
 pub use registers::sequence_step_enables;
 pub use registers::timing_registers;
+pub use registers::word;
 pub use timeouts::final_time;
 pub use timeouts::msrc_time;
 pub use timeouts::period_clocks;

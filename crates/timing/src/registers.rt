@@ -4,7 +4,8 @@ ghost use Rattle.timing.specs.Registers.{wordOf, registersOf, sequenceSt
 use crate::SeqStepEnables;
 use crate::TimingRegisters;
 
-fn word(high: u8, low: u8) -> u16
+// Two bytes as a number, high byte first.
+pub fn word(high: u8, low: u8) -> u16
     ensures { λ r. ⌜ r ≡ wordOf high low ⌝ }
 {
     (high as u16) * 256 + (low as u16)

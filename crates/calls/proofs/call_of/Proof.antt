@@ -3,7 +3,7 @@ use borrow.Author.Needs.{needs}
 use Rattle.calls.specs.declared.Call.{Call}
 use Rattle.calls.specs.Calls.{callOf, calls}
 use native.Mathlib.Omega.{arith}
-use Rattle.calls.proofs.Steps.{past}
+use Rattle.session.proofs.Facts.{past}
 use Rattle.calls.proofs.call_of.Statement.{statement}
 use Rattle.calls.proofs.call_of.Tie as tie
 

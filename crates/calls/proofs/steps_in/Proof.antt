@@ -2,7 +2,7 @@
 use borrow.Author.Needs.{needs}
 use mathlib.Core.Path.{_∙_}
 use native.Mathlib.Omega.{arith}
-use Rattle.calls.proofs.Steps.{past}
+use Rattle.session.proofs.Facts.{past}
 use Rattle.calls.proofs.Programs.{lengths, steps-counted}
 use Rattle.calls.proofs.steps_in.Statement.{statement}
 use Rattle.calls.proofs.steps_in.Tie as tie

@@ -2,7 +2,7 @@
 use native.Mathlib.Omega.{arith}
 use borrow.Author.Needs.{needs}
 use Rattle.session.specs.Calls.{ceilings, ceilingOf}
-use Rattle.calls.proofs.Steps.{past}
+use Rattle.session.proofs.Facts.{past}
 use Rattle.checks.proofs.ceiling_of.Statement.{statement}
 use Rattle.checks.proofs.ceiling_of.Tie as tie
 

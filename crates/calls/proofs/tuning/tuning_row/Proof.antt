@@ -3,8 +3,9 @@ use borrow.Author.Needs.{needs}
 use mathlib.Core.List.{[], _∷_, map}
 use native.Mathlib.Omega.{arith}
 use Rattle.session.specs.Calls.{tuning}
+use Rattle.session.proofs.Facts.{past}
 use Rattle.calls.specs.Parts.{rowBytes, tuningRow}
-use Rattle.calls.proofs.Steps.{any-default, past}
+use Rattle.calls.proofs.Steps.{any-default}
 use Rattle.calls.proofs.tuning.tuning_row.Statement.{statement}
 use Rattle.calls.proofs.tuning.tuning_row.Tie as tie
 

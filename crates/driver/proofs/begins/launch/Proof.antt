@@ -4,7 +4,7 @@ use Prim.Native.Nat.{_≤_}
 use native.Mathlib.Omega.{arith}
 use borrow.Author.Needs.{needs}
 use Rattle.calls.specs.declared.Call.{Call}
-use Rattle.steps.specs.Ends.{mostFor}
+use Rattle.calls.specs.Calls.{mostFor}
 use Rattle.steps.specs.Steps.{mostAt}
 use Rattle.checks.proofs.Places.{stored-fits}
 use Rattle.reactions.specs.Reactions.{reached}

@@ -3,7 +3,7 @@ use mathlib.Core.Path.{_∙_, ap, sym, subst}
 use Prim.Native.Nat.{_≤_}
 use borrow.Author.Needs.{needs}
 use Rattle.calls.specs.declared.Call.{Call}
-use Rattle.steps.specs.Ends.{mostFor}
+use Rattle.calls.specs.Calls.{mostFor}
 use Rattle.reactions.specs.Outcome.{outcomeOf}
 use Rattle.reactions.proofs.Meets.{ends}
 use Rattle.checks.proofs.Places.{stored-fits}

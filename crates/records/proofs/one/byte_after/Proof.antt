@@ -2,7 +2,7 @@
 use Prim.Native.Nat.{_+_}
 use native.Mathlib.Omega.{arith}
 use borrow.Author.Needs.{needs}
-use Rattle.calls.proofs.Steps.{past}
+use Rattle.session.proofs.Facts.{past}
 use denote.Ref.{now}
 use Rattle.records.proofs.one.byte_after.Statement.{statement}
 use Rattle.records.proofs.one.byte_after.Tie as tie

@@ -1,7 +1,7 @@
 -- `steps::kept::reply_byte` meets its contract.
 use borrow.Author.Needs.{needs}
 use native.Mathlib.Omega.{arith}
-use Rattle.calls.proofs.Steps.{past}
+use Rattle.session.proofs.Facts.{past}
 use Rattle.steps.proofs.kept.reply_byte.Statement.{statement}
 use Rattle.steps.proofs.kept.reply_byte.Tie as tie
 

@@ -1,7 +1,7 @@
 -- `steps::values::carried_byte` meets its contract.
 use borrow.Author.Needs.{needs}
 use native.Mathlib.Omega.{arith}
-use Rattle.calls.proofs.Steps.{past}
+use Rattle.session.proofs.Facts.{past}
 use Rattle.steps.proofs.values.carried_byte.Statement.{statement}
 use Rattle.steps.proofs.values.carried_byte.Tie as tie
 
