@@ -51,7 +51,7 @@ static void records(void)
 static void outcomes(void)
 {
     static const uint8_t transfer[] = {16, 0x29, 3, 0x71, 0x02, 0x92, 0, 0, 0, 0, 1};
-    static const uint8_t answer[] = {0, 0x12, 0x34, 0x56, 0x78, 0, 1, 0x4E, 0xB8, 0, 0};
+    static const uint8_t answer[] = {0, 0x78, 0x56, 0x34, 0x12, 0xB8, 0x4E, 1, 0, 0, 0};
 
     CHECK(sizeof transfer == VL53L0X_OUTCOME_SIZE);
     CHECK(VL53L0X_OUTCOME_SIZE == 3 + VL53L0X_MOST_WRITTEN + 1);
@@ -73,15 +73,15 @@ static void sessions(void)
     CHECK(vl53l0x_session_up(session) == 0);
     CHECK(vl53l0x_session_address(session) == 1);
     CHECK(vl53l0x_session_stop(session) == 2);
-    CHECK(vl53l0x_session_budget(session) == 0x03040506);
+    CHECK(vl53l0x_session_budget(session) == 0x06050403);
     CHECK(vl53l0x_session_code(session) == 7);
-    CHECK(vl53l0x_session_a(session) == 0x08090A0B);
-    CHECK(vl53l0x_session_b(session) == 0x0C0D);
+    CHECK(vl53l0x_session_a(session) == 0x0B0A0908);
+    CHECK(vl53l0x_session_b(session) == 0x0D0C);
     CHECK(vl53l0x_session_step(session) == 14);
-    CHECK(vl53l0x_session_idle(session) == 0x0F101112);
-    CHECK(vl53l0x_session_transfers(session) == 0x13141516);
+    CHECK(vl53l0x_session_idle(session) == 0x1211100F);
+    CHECK(vl53l0x_session_transfers(session) == 0x16151413);
     CHECK(vl53l0x_session_failed(session) == 23);
-    CHECK(vl53l0x_session_own(session) == 0x18191A1B);
+    CHECK(vl53l0x_session_own(session) == 0x1B1A1918);
     CHECK(vl53l0x_session_carried(session) == session + 28);
 }
 

@@ -16,7 +16,7 @@
  *
  * Threads: sessions are independent. One session is for one thread at a time.
  *
- * All numbers in a session, a record and an outcome are high byte first.
+ * Numbers in a session and in an outcome are low byte first, those in a record high byte first.
  */
 #ifndef VL53L0X_H
 #define VL53L0X_H
@@ -127,17 +127,19 @@ uint8_t vl53l0x_step(uint8_t *session, size_t session_len, const uint8_t *record
  */
 uint8_t vl53l0x_outstanding(const uint8_t *session, size_t session_len, uint8_t *outcome, size_t outcome_len);
 
-/* Numbers, high byte first. */
+/* Numbers: of a session or an outcome, low byte first. */
 
 static inline uint16_t vl53l0x_get_16(const uint8_t *bytes)
 {
-    return (uint16_t)((unsigned)bytes[0] << 8 | bytes[1]);
+    return (uint16_t)((unsigned)bytes[1] << 8 | bytes[0]);
 }
 
 static inline uint32_t vl53l0x_get_32(const uint8_t *bytes)
 {
-    return (uint32_t)vl53l0x_get_16(bytes) << 16 | vl53l0x_get_16(bytes + 2);
+    return (uint32_t)vl53l0x_get_16(bytes + 2) << 16 | vl53l0x_get_16(bytes);
 }
+
+/* Into a record, high byte first. */
 
 static inline void vl53l0x_put_16(uint8_t *bytes, uint16_t number)
 {

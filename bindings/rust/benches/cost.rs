@@ -106,7 +106,7 @@ impl Case {
             }
         }
         assert_eq!(outcome[0], 0);
-        Answer::Done(u32::from_be_bytes([outcome[1], outcome[2], outcome[3], outcome[4]]))
+        Answer::Done(u32::from_le_bytes([outcome[1], outcome[2], outcome[3], outcome[4]]))
     }
 
     fn by_drive(&mut self) -> Answer {

@@ -23,10 +23,13 @@ pub fn drive<B: Bus + ?Sized>(session: &mut Session, bus: &mut B, call: Call) ->
         match outcome {
             Outcome::Answer { answer, transfers } => return (answer, transfers),
             Outcome::Transfer(transfer) => {
-                let mut data = [0; 6];
-                let read = &mut data[..transfer.reads()];
-                let reply = bus.write_read(transfer.address(), transfer.written(), read);
-                outcome = session.step(&reply::record(reply.map(|()| &*read)));
+                // The bytes read go straight into the record of a good reply.
+                let mut record = [2, 0, 0, 0, 0, 0, 0, 0];
+                let read = &mut record[2..][..transfer.reads()];
+                if let Err(code) = bus.write_read(transfer.address(), transfer.written(), read) {
+                    record = reply::record(Err(code));
+                }
+                outcome = session.step(&record);
             }
         }
     }

@@ -112,8 +112,8 @@ impl Outcome {
                 Some(Outcome::Transfer(Transfer { address, count, written, reads }))
             }
             [number, v0, v1, v2, v3, t0, t1, t2, t3, 0, 0] => {
-                let answer = Answer::of(number, u32::from_be_bytes([v0, v1, v2, v3]))?;
-                Some(Outcome::Answer { answer, transfers: u32::from_be_bytes([t0, t1, t2, t3]) })
+                let answer = Answer::of(number, u32::from_le_bytes([v0, v1, v2, v3]))?;
+                Some(Outcome::Answer { answer, transfers: u32::from_le_bytes([t0, t1, t2, t3]) })
             }
             _ => None,
         }

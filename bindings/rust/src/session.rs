@@ -101,7 +101,7 @@ impl Session {
 
     /// Argument B of the waiting call.
     pub fn b(&self) -> u16 {
-        u16::from_be_bytes([self.bytes[12], self.bytes[13]])
+        u16::from_le_bytes([self.bytes[12], self.bytes[13]])
     }
 
     /// The step of the waiting call that is out.
@@ -136,7 +136,7 @@ impl Session {
 
     fn long(&self, at: usize) -> u32 {
         let byte = |k| self.bytes[at + k];
-        u32::from_be_bytes([byte(0), byte(1), byte(2), byte(3)])
+        u32::from_le_bytes([byte(0), byte(1), byte(2), byte(3)])
     }
 }
 

@@ -24,8 +24,8 @@ fn waiting() -> [u8; 52] {
 fn waiting_in(code: u8, a: u32, b: u16, at: u8, idle: u32, transfers: u32) -> [u8; 52] {
     let session = if code == 1 { FRESH } else { up() };
     let session = with(session, 7, &[code]);
-    let session = with(with(session, 8, &a.to_be_bytes()), 12, &b.to_be_bytes());
-    with(with(with(session, 14, &[at]), 15, &idle.to_be_bytes()), 19, &transfers.to_be_bytes())
+    let session = with(with(session, 8, &a.to_le_bytes()), 12, &b.to_le_bytes());
+    with(with(with(session, 14, &[at]), 15, &idle.to_le_bytes()), 19, &transfers.to_le_bytes())
 }
 
 /// The bytes with others from an index on.

@@ -60,8 +60,8 @@ fn outcomes_are_read_from_their_bytes() {
         (14, 0, Answer::SpareBytes),
         (15, 0, Answer::IllFormedSession),
     ] {
-        let [v0, v1, v2, v3] = u32::to_be_bytes(value);
-        let bytes = [number, v0, v1, v2, v3, 0, 1, 0x4E, 0xB8, 0, 0];
+        let [v0, v1, v2, v3] = u32::to_le_bytes(value);
+        let bytes = [number, v0, v1, v2, v3, 0xB8, 0x4E, 1, 0, 0, 0];
         assert_eq!(Outcome::from_bytes(&bytes), Some(Outcome::Answer { answer, transfers: 85_688 }));
     }
     let outcome = Outcome::from_bytes(&[16, 0x29, 3, 0x71, 0x02, 0x92, 0, 0, 0, 0, 1]);
@@ -119,9 +119,9 @@ fn other_bytes_are_no_session() {
 fn fields_stand_at_their_places() {
     let bytes: Vec<u8> = (0..52).map(|index| if index == 0 { 1 } else { 100 + index }).collect();
     let session = Session::from_bytes(&bytes).expect("a session");
-    let long = |at: usize| u32::from_be_bytes(bytes[at..][..4].try_into().expect("four bytes"));
+    let long = |at: usize| u32::from_le_bytes(bytes[at..][..4].try_into().expect("four bytes"));
     assert_eq!((session.up(), session.address(), session.stop(), session.budget()), (true, 101, 102, long(3)));
-    assert_eq!((session.code(), session.a(), session.b()), (107, long(8), 112 * 256 + 113));
+    assert_eq!((session.code(), session.a(), session.b()), (107, long(8), 113 * 256 + 112));
     assert_eq!((session.at(), session.idle(), session.transfers()), (114, long(15), long(19)));
     assert_eq!((session.failed(), session.own(), session.carried()), (123, long(24), &bytes[28..]));
     assert_eq!(session.as_bytes()[..], bytes);

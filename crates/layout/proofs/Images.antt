@@ -22,7 +22,7 @@ fills {was} {image} p e =
     p .puts ∙ sets-eq image was 0 (omega arith) ∙ ap (λ (l : List ℕ). take 0 was ++ image ++ l) none ∙ append-nil image
 
 -- four bytes are two words
-pub two-words : (x : ℕ) → wordBytes (x / 65536) ++ wordBytes (x % 65536) ≡ longBytes x
+pub two-words : (x : ℕ) → wordBytes (x % 65536) ++ wordBytes (x / 65536) ≡ longBytes x
 two-words x =
     let a : x / 65536 / 256 ≡ x / 16777216 = omega arith in
     let b : x % 65536 / 256 ≡ x / 256 % 256 = omega arith in

@@ -60,7 +60,7 @@ flag-back (suc zero) h = refl
 flag-back (suc (suc b)) h = absurd (omega arith)
 
 long-back : (a b c d : ℕ) → a < 256 → b < 256 → c < 256 → d < 256
-    → longBytes (a * 16777216 + b * 65536 + c * 256 + d) ≡ a ∷ b ∷ c ∷ d ∷ []
+    → longBytes (a * 16777216 + b * 65536 + c * 256 + d) ≡ d ∷ c ∷ b ∷ a ∷ []
 long-back a b c d ha hb hc hd =
     let x = a * 16777216 + b * 65536 + c * 256 + d in
     let ea : x / 16777216 ≡ a = omega arith in
@@ -69,14 +69,14 @@ long-back a b c d ha hb hc hd =
     let ed : x % 256 ≡ d = omega arith in
     rw (ea, eb, ec, ed) refl
 
-word-back : (a b : ℕ) → b < 256 → wordBytes (a * 256 + b) ≡ a ∷ b ∷ []
+word-back : (a b : ℕ) → b < 256 → wordBytes (a * 256 + b) ≡ b ∷ a ∷ []
 word-back a b hb =
     let ea : (a * 256 + b) / 256 ≡ a = omega arith in
     let eb : (a * 256 + b) % 256 ≡ b = omega arith in
     rw (ea, eb) refl
 
 module _ (l : List ℕ) (bytes : areBytes l ≡ true) where
-  long-at : (i j k m : ℕ) → longBytes (byte i l * 16777216 + byte j l * 65536 + byte k l * 256 + byte m l) ≡ byte i l ∷ byte j l ∷ byte k l ∷ byte m l ∷ []
+  long-at : (i j k m : ℕ) → longBytes (byte i l * 16777216 + byte j l * 65536 + byte k l * 256 + byte m l) ≡ byte m l ∷ byte k l ∷ byte j l ∷ byte i l ∷ []
   long-at i j k m = long-back (byte i l) (byte j l) (byte k l) (byte m l) (below l i bytes) (below l j bytes) (below l k bytes) (below l m bytes)
 
   -- the bytes of the session that is read, by its parts
@@ -90,12 +90,12 @@ module _ (l : List ℕ) (bytes : areBytes l ≡ true) where
   unfolding sessionBytes sessionOf
   written flagged long =
       ap (λ (x : ℕ). image x (longBytes (longAt 3 l)) (longBytes (longAt 8 l)) (wordBytes (wordAt 12 l)) (longBytes (longAt 15 l)) (longBytes (longAt 19 l)) (longBytes (longAt 24 l))) (flag-back (byte 0 l) (leb-true (byte 0 l) 1 flagged))
-      ∙ ap (λ (x : List ℕ). image (byte 0 l) x (longBytes (longAt 8 l)) (wordBytes (wordAt 12 l)) (longBytes (longAt 15 l)) (longBytes (longAt 19 l)) (longBytes (longAt 24 l))) (long-at 3 4 5 6)
-      ∙ ap (λ (x : List ℕ). image (byte 0 l) (bytesFrom 3 4 l) x (wordBytes (wordAt 12 l)) (longBytes (longAt 15 l)) (longBytes (longAt 19 l)) (longBytes (longAt 24 l))) (long-at 8 9 10 11)
-      ∙ ap (λ (x : List ℕ). image (byte 0 l) (bytesFrom 3 4 l) (bytesFrom 8 4 l) x (longBytes (longAt 15 l)) (longBytes (longAt 19 l)) (longBytes (longAt 24 l))) (word-back (byte 12 l) (byte 13 l) (below l 13 bytes))
-      ∙ ap (λ (x : List ℕ). image (byte 0 l) (bytesFrom 3 4 l) (bytesFrom 8 4 l) (bytesFrom 12 2 l) x (longBytes (longAt 19 l)) (longBytes (longAt 24 l))) (long-at 15 16 17 18)
-      ∙ ap (λ (x : List ℕ). image (byte 0 l) (bytesFrom 3 4 l) (bytesFrom 8 4 l) (bytesFrom 12 2 l) (bytesFrom 15 4 l) x (longBytes (longAt 24 l))) (long-at 19 20 21 22)
-      ∙ ap (λ (x : List ℕ). image (byte 0 l) (bytesFrom 3 4 l) (bytesFrom 8 4 l) (bytesFrom 12 2 l) (bytesFrom 15 4 l) (bytesFrom 19 4 l) x) (long-at 24 25 26 27)
+      ∙ ap (λ (x : List ℕ). image (byte 0 l) x (longBytes (longAt 8 l)) (wordBytes (wordAt 12 l)) (longBytes (longAt 15 l)) (longBytes (longAt 19 l)) (longBytes (longAt 24 l))) (long-at 6 5 4 3)
+      ∙ ap (λ (x : List ℕ). image (byte 0 l) (bytesFrom 3 4 l) x (wordBytes (wordAt 12 l)) (longBytes (longAt 15 l)) (longBytes (longAt 19 l)) (longBytes (longAt 24 l))) (long-at 11 10 9 8)
+      ∙ ap (λ (x : List ℕ). image (byte 0 l) (bytesFrom 3 4 l) (bytesFrom 8 4 l) x (longBytes (longAt 15 l)) (longBytes (longAt 19 l)) (longBytes (longAt 24 l))) (word-back (byte 13 l) (byte 12 l) (below l 12 bytes))
+      ∙ ap (λ (x : List ℕ). image (byte 0 l) (bytesFrom 3 4 l) (bytesFrom 8 4 l) (bytesFrom 12 2 l) x (longBytes (longAt 19 l)) (longBytes (longAt 24 l))) (long-at 18 17 16 15)
+      ∙ ap (λ (x : List ℕ). image (byte 0 l) (bytesFrom 3 4 l) (bytesFrom 8 4 l) (bytesFrom 12 2 l) (bytesFrom 15 4 l) x (longBytes (longAt 24 l))) (long-at 22 21 20 19)
+      ∙ ap (λ (x : List ℕ). image (byte 0 l) (bytesFrom 3 4 l) (bytesFrom 8 4 l) (bytesFrom 12 2 l) (bytesFrom 15 4 l) (bytesFrom 19 4 l) x) (long-at 27 26 25 24)
       ∙ sym (spread 28 0 l long)
 
 write-back : (l : List ℕ) → areBytes l ≡ true → isSession l ≡ true → sessionBytes (sessionIn l) ≡ l

@@ -1,4 +1,4 @@
--- A session and an outcome as bytes of a fixed layout, for callers in other languages. Numbers stand high byte first, as in records.
+-- A session and an outcome as bytes of a fixed layout, for callers in other languages. Numbers stand low byte first.
 use mathlib.Core.Bool.{Bool, _&&_, cond}
 use mathlib.Core.List.{List, [], _∷_, _++_}
 use Prim.Native.Nat.{ℕ, _+_, _*_, _/_, _%_}
@@ -16,17 +16,17 @@ use Rattle.lines.specs.Lines.{flag, valueOf}
 
 -- a number in two bytes, and in four
 abbrev pub wordBytes : ℕ → List ℕ
-wordBytes x = x / 256 ∷ x % 256 ∷ []
+wordBytes x = x % 256 ∷ x / 256 ∷ []
 
 abbrev pub longBytes : ℕ → List ℕ
-longBytes x = x / 16777216 ∷ x / 65536 % 256 ∷ x / 256 % 256 ∷ x % 256 ∷ []
+longBytes x = x % 256 ∷ x / 256 % 256 ∷ x / 65536 % 256 ∷ x / 16777216 ∷ []
 
 -- the number in two bytes from i on, and in four
 abbrev pub wordAt : ℕ → List ℕ → ℕ
-wordAt i l = byte i l * 256 + byte (i + 1) l
+wordAt i l = byte (i + 1) l * 256 + byte i l
 
 abbrev pub longAt : ℕ → List ℕ → ℕ
-longAt i l = byte i l * 16777216 + byte (i + 1) l * 65536 + byte (i + 2) l * 256 + byte (i + 3) l
+longAt i l = byte (i + 3) l * 16777216 + byte (i + 2) l * 65536 + byte (i + 1) l * 256 + byte i l
 
 abbrev pub sessionSize : ℕ
 sessionSize = 52

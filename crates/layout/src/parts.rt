@@ -18,16 +18,16 @@ pub(crate) fn put_word(lent: &mut [u8], at: usize, x: u16) -> usize
     requires { ⌜ at + 2 ≤ length (now lent) ⌝ }
     ensures { λ r. ⌜ Put (now (lent .entry)) at (wordBytes x) (now (lent .exit)) r ⌝ }
 {
-    let next = put_byte(lent, at, (x / 256) as u8);
-    put_byte(lent, next, (x % 256) as u8)
+    let next = put_byte(lent, at, (x % 256) as u8);
+    put_byte(lent, next, (x / 256) as u8)
 }
 
 pub(crate) fn put_long(lent: &mut [u8], at: usize, x: u32) -> usize
     requires { ⌜ at + 4 ≤ length (now lent) ⌝ }
     ensures { λ r. ⌜ Put (now (lent .entry)) at (longBytes x) (now (lent .exit)) r ⌝ }
 {
-    let next = put_word(lent, at, (x / 65536) as u16);
-    put_word(lent, next, (x % 65536) as u16)
+    let next = put_word(lent, at, (x % 65536) as u16);
+    put_word(lent, next, (x / 65536) as u16)
 }
 
 pub(crate) fn put_bytes(lent: &mut [u8], at: usize, part: &[u8]) -> usize

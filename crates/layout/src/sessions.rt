@@ -15,14 +15,14 @@ fn word_at(lent: &[u8], at: usize) -> u16
     requires { ⌜ at + 2 ≤ length (now lent) ⌝ }
     ensures { λ r. ⌜ r ≡ wordAt at (now (lent .entry)) ⌝ }
 {
-    timing::word(lent[at], lent[at + 1])
+    timing::word(lent[at + 1], lent[at])
 }
 
 fn long_at(lent: &[u8], at: usize) -> u32
     requires { ⌜ at + 4 ≤ length (now lent) ⌝ }
     ensures { λ r. ⌜ r ≡ longAt at (now (lent .entry)) ⌝ }
 {
-    records::long(lent[at], lent[at + 1], lent[at + 2], lent[at + 3])
+    records::long(lent[at + 3], lent[at + 2], lent[at + 1], lent[at])
 }
 
 fn carried_in(lent: &[u8]) -> [u8; 24]

@@ -65,7 +65,7 @@ impl<'a> Sides<'a> {
         match self.fields {
             None => [0; 7],
             Some(Fields { stop_variable, measurement_timing_budget_microseconds, address }) => {
-                let [b0, b1, b2, b3] = measurement_timing_budget_microseconds.to_be_bytes();
+                let [b0, b1, b2, b3] = measurement_timing_budget_microseconds.to_le_bytes();
                 [1, address, stop_variable, b0, b1, b2, b3]
             }
         }
@@ -74,11 +74,11 @@ impl<'a> Sides<'a> {
     /// A session that waits holds the fields that it had, a bring-up none; the call; its transfers; and says what is
     /// out.
     fn waits(&self, what: impl Fn() -> String, call: Call, before: [u8; 7], transfers: u32, outcome: [u8; 11]) {
-        let [_, record @ ..] = call.record();
+        let [_, code, a3, a2, a1, a0, b1, b0] = call.record();
         let held = if call.is_bring_up() { [0; 7] } else { before };
         same(&what, "the fields", part(&self.session, 0), held);
-        same(&what, "the call", part(&self.session, 7), record);
-        same(&what, "the count of transfers", part(&self.session, 19), transfers.to_be_bytes());
+        same(&what, "the call", part(&self.session, 7), [code, a0, a1, a2, a3, b0, b1]);
+        same(&what, "the count of transfers", part(&self.session, 19), transfers.to_le_bytes());
         same(&what, "what is out", self.outstanding(), outcome);
     }
 
@@ -117,7 +117,7 @@ fn part<const N: usize>(session: &[u8; 52], from: usize) -> [u8; N] {
 
 /// An answer as an outcome.
 fn answered(Answer(number, value): Answer, transfers: u32) -> [u8; 11] {
-    let ([v0, v1, v2, v3], [t0, t1, t2, t3]) = (value.to_be_bytes(), transfers.to_be_bytes());
+    let ([v0, v1, v2, v3], [t0, t1, t2, t3]) = (value.to_le_bytes(), transfers.to_le_bytes());
     [number, v0, v1, v2, v3, t0, t1, t2, t3, 0, 0]
 }
 
