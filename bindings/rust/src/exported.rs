@@ -28,6 +28,7 @@ pub fn fresh(session: &mut [u8]) -> u8 {
 /// Hands a record to a session, writes both the session that it leads to and the outcome, and returns byte 0 of the
 /// outcome. With a record that is not 8 bytes long the outcome is answer 14, with bytes that are no session answer 15,
 /// and the session is as it was. If the outcome is not 11 bytes long: changes nothing and returns 17.
+#[inline]
 pub fn step(session: &mut [u8], record: &[u8], outcome: &mut [u8]) -> u8 {
     // SAFETY: each pointer goes with the length of its own slice; the two slices that are written are borrowed
     // mutably, so nothing overlaps them; all are lent for this call alone, and the function keeps no pointer.

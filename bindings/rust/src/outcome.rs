@@ -25,16 +25,19 @@ pub struct Transfer {
 
 impl Transfer {
     /// The address of the device, seven bits as the Rust driver has it.
+    #[inline]
     pub fn address(&self) -> u8 {
         self.address
     }
 
     /// The bytes to write, one to seven.
+    #[inline]
     pub fn written(&self) -> &[u8] {
         &self.written[..usize::from(self.count)]
     }
 
     /// How many bytes to read after that: 0, 1, 2 or 6. With 0 the transfer is a write alone.
+    #[inline]
     pub fn reads(&self) -> usize {
         usize::from(self.reads)
     }
@@ -106,6 +109,7 @@ impl Answer {
 
 impl Outcome {
     /// Reads the eleven bytes of an outcome; none if they are no outcome of the library.
+    #[inline]
     pub fn from_bytes(bytes: &[u8; 11]) -> Option<Outcome> {
         match *bytes {
             [16, address, count @ 1..=7, written @ .., reads @ (0 | 1 | 2 | 6)] => {

@@ -39,6 +39,7 @@ impl Session {
     }
 
     /// Hands a record to the session: one of a call, or one of a reply.
+    #[inline]
     pub fn step(&mut self, record: &[u8; 8]) -> Outcome {
         let mut outcome = [0; 11];
         exported::step(&mut self.bytes, record, &mut outcome);
@@ -141,6 +142,7 @@ impl Session {
 }
 
 /// The outcome that the library has written. Its contract leaves no other bytes.
+#[inline]
 fn known(outcome: &[u8; 11]) -> Outcome {
     Outcome::from_bytes(outcome).expect("the library writes an outcome")
 }

@@ -46,13 +46,14 @@ tuning-is : load-tuning-settings ≡ writes tuning
 unfolding load-tuning-settings tuning
 tuning-is = refl
 
-from-1 : (d : Driver) (a b : ℕ) (x : Script) → x ≡ script 1 (fresh 1 absent a a b) → x ≡ rust d 1 a b
+-- the tuning list is put in last, so that nothing else is looked for in it
+bring-up-is : (d : Driver) (a b : ℕ) (x : Script) → x ≡ script 1 (fresh 1 absent a a b) → x ≡ rust d 1 a b
 unfolding programOf programs rust calls idleOn tuning entriesOf lessPlace orByte eachBit bitsOf byteOf
-from-1 d a b x e =
+bring-up-is d a b x e =
     rw (or-is, and-is, no-interrupt-is, spad-count-is, aperture-is) (rw (spads-are, quarter-in, quarter-word, get-is, set-is) (rw tuning-is e))
 
 pub same-1 : (d : Driver) (a b : ℕ) → script 1 (fresh 1 absent a a b) ≡ rust d 1 a b
-same-1 d a b = from-1 d a b (script 1 (fresh 1 absent a a b)) refl
+same-1 d a b = bring-up-is d a b (script 1 (fresh 1 absent a a b)) refl
 
 pub same-2 : (d : Driver) (a b : ℕ) → script 2 (fresh 2 d (d .address) a b) ≡ rust d 2 a b
 unfolding programOf programs rust calls
