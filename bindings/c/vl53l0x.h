@@ -127,30 +127,30 @@ uint8_t vl53l0x_step(uint8_t *session, size_t session_len, const uint8_t *record
  */
 uint8_t vl53l0x_outstanding(const uint8_t *session, size_t session_len, uint8_t *outcome, size_t outcome_len);
 
-/* Numbers: of a session or an outcome, low byte first. */
+/* A number of a session or an outcome. */
 
-static inline uint16_t vl53l0x_get_16(const uint8_t *bytes)
+static inline uint16_t vl53l0x_get_low_first_16(const uint8_t *bytes)
 {
     return (uint16_t)((unsigned)bytes[1] << 8 | bytes[0]);
 }
 
-static inline uint32_t vl53l0x_get_32(const uint8_t *bytes)
+static inline uint32_t vl53l0x_get_low_first_32(const uint8_t *bytes)
 {
-    return (uint32_t)vl53l0x_get_16(bytes + 2) << 16 | vl53l0x_get_16(bytes);
+    return (uint32_t)vl53l0x_get_low_first_16(bytes + 2) << 16 | vl53l0x_get_low_first_16(bytes);
 }
 
-/* Into a record, high byte first. */
+/* A number of a record. */
 
-static inline void vl53l0x_put_16(uint8_t *bytes, uint16_t number)
+static inline void vl53l0x_put_high_first_16(uint8_t *bytes, uint16_t number)
 {
     bytes[0] = (uint8_t)(number >> 8);
     bytes[1] = (uint8_t)number;
 }
 
-static inline void vl53l0x_put_32(uint8_t *bytes, uint32_t number)
+static inline void vl53l0x_put_high_first_32(uint8_t *bytes, uint32_t number)
 {
-    vl53l0x_put_16(bytes, (uint16_t)(number >> 16));
-    vl53l0x_put_16(bytes + 2, (uint16_t)number);
+    vl53l0x_put_high_first_16(bytes, (uint16_t)(number >> 16));
+    vl53l0x_put_high_first_16(bytes + 2, (uint16_t)number);
 }
 
 /* Records: each function writes 8 bytes. */
@@ -160,8 +160,8 @@ static inline void vl53l0x_put_call(uint8_t *record, uint8_t code, uint32_t a, u
 {
     record[0] = 1;
     record[1] = code;
-    vl53l0x_put_32(record + 2, a);
-    vl53l0x_put_16(record + 6, b);
+    vl53l0x_put_high_first_32(record + 2, a);
+    vl53l0x_put_high_first_16(record + 6, b);
 }
 
 /*
@@ -229,13 +229,13 @@ static inline uint8_t vl53l0x_transfer_reads(const uint8_t *outcome)
 
 static inline uint32_t vl53l0x_answer_value(const uint8_t *outcome)
 {
-    return vl53l0x_get_32(outcome + 1);
+    return vl53l0x_get_low_first_32(outcome + 1);
 }
 
 /* The transfers that the call made; 0 for a refusal. */
 static inline uint32_t vl53l0x_answer_transfers(const uint8_t *outcome)
 {
-    return vl53l0x_get_32(outcome + 5);
+    return vl53l0x_get_low_first_32(outcome + 5);
 }
 
 /* A session. The first four are zero while the sensor is not up. */
@@ -259,7 +259,7 @@ static inline uint8_t vl53l0x_session_stop(const uint8_t *session)
 /* The measurement timing budget in microseconds. */
 static inline uint32_t vl53l0x_session_budget(const uint8_t *session)
 {
-    return vl53l0x_get_32(session + 3);
+    return vl53l0x_get_low_first_32(session + 3);
 }
 
 /* The code of the call that waits for a reply, 0 if none does. The rest is zero while none does. */
@@ -270,12 +270,12 @@ static inline uint8_t vl53l0x_session_code(const uint8_t *session)
 
 static inline uint32_t vl53l0x_session_a(const uint8_t *session)
 {
-    return vl53l0x_get_32(session + 8);
+    return vl53l0x_get_low_first_32(session + 8);
 }
 
 static inline uint16_t vl53l0x_session_b(const uint8_t *session)
 {
-    return vl53l0x_get_16(session + 12);
+    return vl53l0x_get_low_first_16(session + 12);
 }
 
 /* The step of the call that is out. */
@@ -287,13 +287,13 @@ static inline uint8_t vl53l0x_session_step(const uint8_t *session)
 /* How often the wait that the call stands at has been read in vain. */
 static inline uint32_t vl53l0x_session_idle(const uint8_t *session)
 {
-    return vl53l0x_get_32(session + 15);
+    return vl53l0x_get_low_first_32(session + 15);
 }
 
 /* The transfers of the call so far, with the one that is out. */
 static inline uint32_t vl53l0x_session_transfers(const uint8_t *session)
 {
-    return vl53l0x_get_32(session + 19);
+    return vl53l0x_get_low_first_32(session + 19);
 }
 
 /* The failure code of the range read, 0 if it did not fail. */
@@ -305,7 +305,7 @@ static inline uint8_t vl53l0x_session_failed(const uint8_t *session)
 /* The budget that a bring-up has read, in microseconds. */
 static inline uint32_t vl53l0x_session_own(const uint8_t *session)
 {
-    return vl53l0x_get_32(session + 24);
+    return vl53l0x_get_low_first_32(session + 24);
 }
 
 /* The 24 reply bytes that are carried on. They stand in the session. */
