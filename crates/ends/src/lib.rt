@@ -1,12 +1,10 @@
 // The two ends of each call.
 ghost use mathlib.Core.Path.{_≡_};
-ghost use Prim.Native.Nat.{_+_, _*_, _≤_};
+ghost use Prim.Native.Nat.{_≤_};
 ghost use Rattle.calls.specs.Calls.{programFor, mostFor};
 ghost use Rattle.session.specs.Bus.{withAddress, withBudget};
 ghost use Rattle.session.specs.Calls.{broughtUp, byThresholds, byRate, rangeResult};
 ghost use Rattle.session.specs.Machine.{contextOf, heldBy};
-ghost use Rattle.session.specs.Steps.{slotWord};
-ghost use Rattle.threshold.specs.Threshold.{decodeThreshold};
 ghost use Rattle.steps.specs.Steps.{settled};
 ghost use Rattle.ends.specs.Ends.{endOf, addressEntry, budgetEntry, thresholdsOf};
 use calls::Call;

@@ -8,7 +8,7 @@ use native.Mathlib.Omega.{arith}
 use lib.Dec.{eqb, ltb, leb}
 use lib.ListN.{length, drop}
 use lib.Seq.{drop-cons}
-use borrow.Author.Tests.{eqb-true, leb-true, ltb-true}
+use borrow.Author.Tests.{leb-true, ltb-true}
 use Rattle.session.specs.declared.Session.{Session}
 use Rattle.session.specs.Bus.{byte}
 use Rattle.session.specs.Instructions.{bytesFrom}

@@ -1,15 +1,13 @@
 -- What the code needs of an instruction, as plain data: its shape, what is kept of its reply, and what a good reply decides.
 -- Each is read off the session's definition of the instruction, `opOf`.
-use mathlib.Core.Bool.{not, cond}
+use mathlib.Core.Bool.{cond}
 use mathlib.Core.List.{List}
-use Prim.Native.Nat.{ℕ, _+_, _%_}
-use lib.Dec.{eqb, ltb}
+use Prim.Native.Nat.{ℕ, _+_}
+use lib.Dec.{eqb}
 use Rattle.session.specs.declared.Instruction.{Instruction}
 use Rattle.session.specs.declared.Session.{Session}
-use Rattle.session.specs.declared.Answer.{Answer}
 use Rattle.session.specs.Bus.{Condition, detectorReady, statusReady, started, waitRegister}
-use Rattle.session.specs.Instructions.{Context, stopAnswer, wrongDevice, unready, Verdict, onward, leap, stop, test, Op, write, read, wait, range, rangeSlot, timingSlot, budgetIn, put, bytesFrom}
-use Rattle.session.specs.Steps.{tooShort}
+use Rattle.session.specs.Instructions.{Context, stopAnswer, Verdict, onward, leap, stop, test, Op, write, read, wait, range, rangeSlot, timingSlot, budgetIn, put, bytesFrom}
 use Rattle.session.specs.Machine.{heldBy}
 use Rattle.steps.specs.declared.Kind.{Kind}
 use Rattle.steps.specs.declared.Shape.{Shape}
