@@ -1,7 +1,7 @@
 -- What each branch of `signal_rate_limit_word` says of the definition:
 -- a NaN's pattern and a value out of range are refused, in range the word is the product's cast.
 use mathlib.Core.Path.{◌≡◌, refl, sym, ap, ◌∙◌, subst}
-use mathlib.Core.Bool.{Bool, true, false, not, ◌&&◌, cond, and_false}
+use mathlib.Core.Bool.{Bool, true, false, not, ◌&&◌, cond, and-false}
 use Prim.Native.Nat.{ℕ, ◌*◌, ◌/◌, ◌%◌, ◌^◌, ◌≤◌, ◌<◌}
 use borrow.Author.Tests.{le-ltb}
 use lib.Dec.{T}
@@ -37,7 +37,7 @@ refused_below b h = sym (rate_of_lem (of_bits binary32 b) false (in_range_lem (o
 
 pub refused_above : (b : ℕ) → le (of_bits binary32 b) top_limit ≡ false → Refused ≡ signal_rate_limit_word b
 unfolding signal_rate_limit_word
-refused_above b h = sym (rate_of_lem (of_bits binary32 b) false (in_range_lem (of_bits binary32 b) ∙ rw (h, and_false)))
+refused_above b h = sym (rate_of_lem (of_bits binary32 b) false (in_range_lem (of_bits binary32 b) ∙ rw (h, and-false)))
 
 pub ranged : (x : Float) → le zero_limit x ≡ true → le x top_limit ≡ true → in_range x ≡ true
 ranged x lo hi = in_range_lem x ∙ rw (lo, hi)

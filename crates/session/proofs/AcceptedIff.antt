@@ -1,7 +1,7 @@
 -- A call is accepted exactly where 01's numbers say so.
 use mathlib.Core.Path.{◌≡◌, refl, sym, subst, ◌∙◌}
 use mathlib.Core.Logic.{◌↔◌}
-use mathlib.Core.Bool.{Bool, true, false, not, cond, and_false}
+use mathlib.Core.Bool.{Bool, true, false, not, cond, and-false}
 use native.Mathlib.Nat.{zero-add}
 use Prim.Native.Nat.{ℕ, ◌≤◌}
 use native.Mathlib.Omega.{arith}
@@ -26,7 +26,7 @@ unfolding arguments_ok
 beyond code h a b =
     rw (
       lt-leb code 15 (omega arith),
-      and_false (leb 1 code),
+      and-false (leb 1 code),
       ne_eqb code 1 (λ e. omega arith),
       ne_eqb code 2 (λ e. omega arith),
       ne_eqb code 3 (λ e. omega arith),

@@ -139,7 +139,7 @@ walked_is s n [] = refl
 walked_is s n (b ∷ bs) =
     let k = keep s n (bits_of 8 b) in
     let l : length k ≡ 8 = length_keep s n (bits_of 8 b) ∙ length_bits 8 b in
-    rw (keep_append (map_bits bs) s n (bits_of 8 b), length_bits 8 b, ← ones_byte k, take_at k _ 8 l, drop_at k _ 8 l, walked_is _ _ bs)
+    rw (keep_append (map_bits bs) s n (bits_of 8 b), length_bits 8 b, ← ones_byte k, take_at k _ 8 l, drop_at k _ 8 l, walked_is (s - 8) (n - ones (byte_of k)) bs)
 
 -- bytes walked one after another, the masked bytes, and the sum of their ones
 pub data Walks : ℕ → ℕ → List ℕ → List ℕ → ℕ → Type 0 where

@@ -1,7 +1,7 @@
 -- Laws of the selection beside 01, "Detector map": where bit i stands, which bits are kept, that none is set, and how many are kept.
 -- The map's bits are read in a row, where `keep` has a law for each place; the bytes are read back from them.
 use mathlib.Core.Path.{◌≡◌, refl, sym, ap, ◌∙◌}
-use mathlib.Core.Bool.{Bool, true, false, cond, ◌&&◌, and-true, and_false}
+use mathlib.Core.Bool.{Bool, true, false, cond, ◌&&◌, and-true, and-false}
 use mathlib.Core.List.{List, [], ◌∷◌, ◌++◌}
 use mathlib.Core.Logic.{◌⊎◌, inl, inr, ⊎_elim}
 use Prim.Native.Nat.{ℕ, zero, suc, ◌+◌, ◌-◌, ◌*◌, ◌/◌, ◌%◌, ◌^◌, ◌≤◌, ◌<◌, min}
@@ -91,8 +91,8 @@ six_long s n m h = length_keep s n (map_bits m) ∙ length_map_bits m ∙ rw h
 kept_from_zero : (n i : ℕ) (xs : List Bool) → get_or (keep 0 n xs) i false ≡ (get_or xs i false && ltb (trues (take i xs)) n)
 unfolding keep trues
 kept_from_zero n i [] = refl
-kept_from_zero zero zero (x ∷ xs) = sym (and_false x)
-kept_from_zero zero (suc i) (x ∷ xs) = rw (leb-suc-zero, and_false) (rw (leb-suc-zero, and_false) at (kept_from_zero zero i xs))
+kept_from_zero zero zero (x ∷ xs) = sym (and-false x)
+kept_from_zero zero (suc i) (x ∷ xs) = rw (leb-suc-zero, and-false) (rw (leb-suc-zero, and-false) at (kept_from_zero zero i xs))
 kept_from_zero (suc n) zero (true ∷ xs) = sym (lt-ltb 0 (suc n) (omega arith))
 kept_from_zero (suc n) zero (false ∷ xs) = refl
 kept_from_zero (suc n) (suc i) (true ∷ xs) = rw (one-add, leb-suc-suc) (kept_from_zero n i xs)
@@ -103,7 +103,7 @@ kept_at : (s n i : ℕ) (xs : List Bool)
 unfolding keep
 kept_at zero n i xs = rw (leb-zero i, and-true, sub-zero) (kept_from_zero n i xs)
 kept_at (suc s) n i [] = refl
-kept_at (suc s) n zero (x ∷ xs) = rw (leb-suc-zero s, and_false)
+kept_at (suc s) n zero (x ∷ xs) = rw (leb-suc-zero s, and-false)
 kept_at (suc s) n (suc i) (x ∷ xs) = rw (leb-suc-suc s i, suc-sub-suc) (kept_at s n i xs)
 
 -- ---- how many bits are kept
