@@ -1,5 +1,6 @@
 // The six budget replies: which steps of the sequence are on, the timeouts, and the places where
 // the Rust panics on them.
+#![tactic(auto)]
 mod places;
 mod registers;
 mod timeouts;
@@ -9,7 +10,7 @@ pub use registers::{sequence_step_enables, timing_registers, word};
 pub use timeouts::{final_time, msrc_time, period_clocks, pre_share, pre_time, time_in};
 
 // The six budget replies, by the register that each was read from.
-#[derive(Drop)]
+#[derive(Clone, Copy)]
 pub struct TimingRegisters {
     // 0x01 SYSTEM_SEQUENCE_CONFIG
     pub sequence: u8,
@@ -26,7 +27,7 @@ pub struct TimingRegisters {
 }
 
 // Which steps of the sequence are on.
-#[derive(Drop)]
+#[derive(Clone, Copy)]
 pub struct SeqStepEnables {
     pub tcc: bool,
     pub dss: bool,
@@ -36,7 +37,7 @@ pub struct SeqStepEnables {
 }
 
 // The first place of the replies that are known, if there is one.
-#[derive(Drop)]
+#[derive(Clone, Copy)]
 pub enum PlaceOr {
     Clear,
     Place(u8),
