@@ -7,14 +7,14 @@ use reactions::Outcome;
 use session::Session;
 
 // What is printed of a record: what it gave, or the driver's fields after it.
-#[derive(Drop)]
+#[derive(Clone, Copy)]
 pub enum Show {
     Outcomes,
     Fields,
 }
 
 // The session after a block, and how many bytes of text it made.
-#[derive(Drop)]
+#[derive(Clone, Copy)]
 pub struct Printout {
     pub session: Session,
     pub count: usize,

@@ -1,5 +1,6 @@
 // The instructions of every call, in the order of lib.rs, as constant tables: one for each call or section of one.
 // A sequence that several calls share stands once.
+#![tactic(auto)]
 mod bring_up;
 mod sections;
 mod tables;
@@ -11,7 +12,7 @@ ghost use Rattle.calls.specs.Calls.{call_of, program_for, step_of, instruction_a
 use session::Instruction;
 
 // The calls, by the names of lib.rs; `Nothing` for codes that are none.
-#[derive(Drop)]
+#[derive(Clone, Copy)]
 pub enum Call {
     Nothing,
     WithAddress,

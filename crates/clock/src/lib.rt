@@ -7,49 +7,49 @@ ghost use Rattle.clock.specs.Clock.{decoded_vcsel_period, encoded_vcsel_period, 
 ghost use Rattle.clock.specs.Clock.{mclks_to_microseconds, microseconds_to_mclks, cut_mclks};
 
 // Macro clocks.
-#[derive(Drop)]
+#[derive(Clone, Copy)]
 pub struct Mclks(pub u16);
 
 // Macro clocks as a conversion gives them, before they are cut to 16 bits.
-#[derive(Drop)]
+#[derive(Clone, Copy)]
 pub struct WideMclks(pub u32);
 
 // Pulse clocks.
-#[derive(Drop)]
+#[derive(Clone, Copy)]
 pub struct Pclks(pub u8);
 
-#[derive(Drop)]
+#[derive(Clone, Copy)]
 pub struct Microseconds(pub u32);
 
-#[derive(Drop)]
+#[derive(Clone, Copy)]
 pub struct Nanoseconds(pub u32);
 
 // Each answer is the value, or the place of the arithmetic at which the Rust panics.
-#[derive(Drop)]
+#[derive(Clone, Copy)]
 pub enum MclksOr {
     Value(Mclks),
     Place(u8),
 }
 
-#[derive(Drop)]
+#[derive(Clone, Copy)]
 pub enum WideMclksOr {
     Value(WideMclks),
     Place(u8),
 }
 
-#[derive(Drop)]
+#[derive(Clone, Copy)]
 pub enum PclksOr {
     Value(Pclks),
     Place(u8),
 }
 
-#[derive(Drop)]
+#[derive(Clone, Copy)]
 pub enum VcselByteOr {
     Value(u8),
     Place(u8),
 }
 
-#[derive(Drop)]
+#[derive(Clone, Copy)]
 pub enum MicrosecondsOr {
     Value(Microseconds),
     Place(u8),

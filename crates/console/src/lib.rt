@@ -6,7 +6,7 @@ use libc::{STDIN_FILENO, STDOUT_FILENO};
 use session::Session;
 
 // The session after a block, and whether there may be another.
-#[derive(Drop)]
+#[derive(Clone, Copy)]
 struct Printed {
     session: Session,
     more: bool,

@@ -15,7 +15,7 @@ use threshold::{Millimeters, RawThreshold, ThresholdCheck};
 use timing::word;
 
 // How a call ends after its last instruction: a value and the driver's fields, or the code of a failed range read.
-#[derive(Drop)]
+#[derive(Clone, Copy)]
 pub enum End {
     Success(u32, Driver),
     Failure(u8),

@@ -6,7 +6,7 @@ ghost use Rattle.std.specs.Float.Ieee.{of_bits, to_unsigned};
 ghost use Rattle.rate.specs.Rate.{signal_rate_limit_word};
 
 // The word to write, or the limit is refused (answer 1).
-#[derive(Drop)]
+#[derive(Clone, Copy)]
 pub enum RateWord {
     Word(u16),
     Refused,

@@ -21,7 +21,7 @@ use steps::Shape;
 pub use ways::way_of;
 
 // One of four: a transfer, the answer of a call, a refusal, or the session itself is ill-formed (answer 15).
-#[derive(Drop)]
+#[derive(Clone, Copy)]
 pub enum Given {
     Sent,
     Answered(Answer),
@@ -30,7 +30,7 @@ pub enum Given {
 }
 
 // The transfer where one was sent, the transfers of the call where it was answered, and the new session.
-#[derive(Drop)]
+#[derive(Clone, Copy)]
 pub struct Outcome {
     pub given: Given,
     pub transfer: Transfer,
@@ -40,7 +40,7 @@ pub struct Outcome {
 
 // Where a record leads: on to a step, to the same read once more after so many idle ones, out with an answer, or nowhere, since it is refused or the
 // session is ill-formed.
-#[derive(Drop)]
+#[derive(Clone, Copy)]
 pub enum Way {
     To(u32),
     Again(u32),
@@ -50,7 +50,7 @@ pub enum Way {
 }
 
 // A way from an instruction, and the session that goes it.
-#[derive(Drop)]
+#[derive(Clone, Copy)]
 pub struct Course {
     pub way: Way,
     pub at: Instruction,
@@ -59,7 +59,7 @@ pub struct Course {
 
 // What that comes to: an instruction is sent at a step after so many idle reads there, the call ends after its last
 // instruction or with an answer, or the session stays.
-#[derive(Drop)]
+#[derive(Clone, Copy)]
 pub enum Plan {
     Send(Instruction, u8, u32),
     End,

@@ -8,7 +8,7 @@ pub use events::{event_at, place_after};
 
 // A call with its code and arguments, a reply with its failure code and six data bytes, a record that is neither, the end, or fewer than eight
 // bytes (answer 14). The data bytes stand one by one, since no enum holds an array today.
-#[derive(Drop)]
+#[derive(Clone, Copy)]
 pub enum Event {
     Call(u8, u32, u16),
     Reply(u8, u8, u8, u8, u8, u8, u8),
@@ -17,7 +17,7 @@ pub enum Event {
     Spare,
 }
 
-#[derive(Drop)]
+#[derive(Clone, Copy)]
 pub struct Reader<'a> {
     pub records: &'a [u8],
     pub at: usize,

@@ -7,7 +7,7 @@ pub use runs::{run, run_fresh};
 use session::{Answer, Session};
 
 // What the records of a list came to: accepted calls, the answers these got, accepted replies, transfers, refusals.
-#[derive(Drop)]
+#[derive(Clone, Copy)]
 pub struct Counts {
     pub calls: u64,
     pub answers: u64,
@@ -17,7 +17,7 @@ pub struct Counts {
 }
 
 // The run of a list: its answer, the session at its end, and the five counts.
-#[derive(Drop)]
+#[derive(Clone, Copy)]
 pub struct ListRun {
     pub answer: Answer,
     pub session: Session,

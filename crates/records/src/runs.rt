@@ -10,7 +10,7 @@ use reactions::{Given, Outcome};
 use session::{Answer, Session};
 
 // Where a run is: the session, the counts so far, and whether a session was ill-formed.
-#[derive(Drop)]
+#[derive(Clone, Copy)]
 struct Progress {
     session: Session,
     counts: Counts,

@@ -1,7 +1,7 @@
 // The answers of a function for every argument, sixteen to a line.
 use crate::{clocks, print, thresholds};
 
-#[derive(Drop)]
+#[derive(Clone, Copy)]
 pub enum Function {
     DecodeTimeout,
     EncodeTimeout,

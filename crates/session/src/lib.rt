@@ -1,6 +1,7 @@
 // lib.rs: the fields of VL53L0x that a call can change. What is known of a sensor that is up: its address, its stop byte and its stored budget in
 // microseconds. All zero while it is not up.
-#[derive(Drop)]
+#![tactic(auto)]
+#[derive(Clone, Copy)]
 pub struct Driver {
     pub up: bool,
     pub address: u8,
@@ -13,7 +14,7 @@ pub struct Driver {
 // instructions, `idle` the idle reads of the wait it stands at, `transfers` those made so far.
 // `failed` is the failure code of its range read, `own` the budget that its first six budget reads
 // gave, `carried` the reply bytes that it has kept, raw.
-#[derive(Drop)]
+#[derive(Clone, Copy)]
 pub struct Session {
     pub driver: Driver,
     pub code: u8,
@@ -29,7 +30,7 @@ pub struct Session {
 
 // 01: "an address, 1..7 written bytes and a read length". The first `count` bytes of `written` are sent to `address`, then `reads` bytes
 // are read. The bytes of `written` after them are zero.
-#[derive(Drop)]
+#[derive(Clone, Copy)]
 pub struct Transfer {
     pub address: u8,
     pub count: u8,
@@ -38,7 +39,7 @@ pub struct Transfer {
 }
 
 // 01's numbered answers, 0 to 15, in the names of lib.rs's Error where it has one. The first nine end a call, the others refuse a record or a list.
-#[derive(Drop)]
+#[derive(Clone, Copy)]
 pub enum Answer {
     Done(u32),
     False,
@@ -60,7 +61,7 @@ pub enum Answer {
 
 // One step of a call: a transfer and what is done with its reply. Registers, bytes and slots of
 // the carried bytes are numbers.
-#[derive(Drop)]
+#[derive(Clone, Copy)]
 pub enum Instruction {
     // No step: what a table gives past its end.
     Nowhere,

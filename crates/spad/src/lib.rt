@@ -6,14 +6,14 @@ ghost use Rattle.spad.specs.Map.{bits_of, byte_of, keep, first_spad, select_spad
 ghost use Rattle.spad.specs.Walk.{BitWalked, ByteWalked};
 
 // The new map, and how many detectors it keeps.
-#[derive(Drop)]
+#[derive(Clone, Copy)]
 pub struct Selection {
     pub map: [u8; 6],
     pub kept: u32,
 }
 
 // A masked byte, its count of ones, and for the next byte: how many bits to skip, and how many good ones are still wanted.
-#[derive(Drop)]
+#[derive(Clone, Copy)]
 struct Walk {
     byte: u8,
     kept: u32,
@@ -22,7 +22,7 @@ struct Walk {
 }
 
 // A masked bit, and what is left for the next bit.
-#[derive(Drop)]
+#[derive(Clone, Copy)]
 struct Step {
     bit: u8,
     skip: u32,

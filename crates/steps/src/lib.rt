@@ -1,4 +1,5 @@
 // What an instruction is to a session: its shape, what is kept of its reply, and values of what is kept.
+#![tactic(auto)]
 mod kept;
 mod shapes;
 mod values;
@@ -8,7 +9,7 @@ use session::Answer;
 pub use shapes::{shape_of, timing_length, timing_register};
 pub use values::{held, oscillator_word, timed_period, timing_in, word_to_set};
 
-#[derive(Drop)]
+#[derive(Clone, Copy)]
 pub enum Kind {
     Write,
     Read,
@@ -21,7 +22,7 @@ pub enum Kind {
 }
 
 // A transfer's register and read length, the slot that the bytes read are kept from, and how many instructions a leap leaves out.
-#[derive(Drop)]
+#[derive(Clone, Copy)]
 pub struct Shape {
     pub kind: Kind,
     pub register: u8,
@@ -31,7 +32,7 @@ pub struct Shape {
 }
 
 // What a good reply, or the arguments of a call, decide.
-#[derive(Drop)]
+#[derive(Clone, Copy)]
 pub enum Next {
     Onward,
     Leap,

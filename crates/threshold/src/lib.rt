@@ -4,13 +4,13 @@ ghost use Rattle.std.specs.Prelude.{◌≡◌};
 ghost use Rattle.threshold.specs.Threshold.{encode_threshold, decode_threshold, check_thresholds};
 
 // The register counts in steps of two millimetres, so its word has a type of its own: neither can be passed for the other.
-#[derive(Drop)]
+#[derive(Clone, Copy)]
 pub struct Millimeters(pub u16);
 
-#[derive(Drop)]
+#[derive(Clone, Copy)]
 pub struct RawThreshold(pub u16);
 
-#[derive(Drop)]
+#[derive(Clone, Copy)]
 pub enum ThresholdCheck {
     Valid,
     InvalidArgument,
