@@ -1,4 +1,5 @@
 // A session and an outcome as bytes of a fixed layout, for callers in other languages.
+#![tactic(auto)]
 mod outcomes;
 mod parts;
 mod sessions;

@@ -1,4 +1,5 @@
 // Records of eight bytes, and the run over a list of them.
+#![tactic(auto)]
 mod one;
 mod runs;
 

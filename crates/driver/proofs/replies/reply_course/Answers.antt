@@ -1,0 +1,14 @@
+-- `driver::replies::reply_course` meets its contract.
+use mathlib.Core.Path.{◌∙◌}
+use borrow.Author.Rules.{rules}
+use Rattle.checks.proofs.Places.{ill_is}
+use Rattle.driver.proofs.replies.reply_course.Goals as goal
+
+pub reply_at-requires : goal.reply_at-requires
+reply_at-requires c =
+    let i = c.instruction_at-i.ensures in
+    let x = c.shape_of-x.ensures in
+    ((rw (x, i) at c.ill_formed_at.ensures) ∙ ill_is c.args.s, (i, x))
+
+pub returns : goal.returns
+returns c = c.reply_at.ensures

@@ -1,0 +1,14 @@
+-- `lines::digits::put_small` meets its contract.
+use native.Mathlib.Omega.{arith}
+use borrow.Author.Rules.{rules}
+use Rattle.lines.proofs.Numbers.{byte_digits}
+use Rattle.lines.proofs.Putting.{then}
+use Rattle.lines.proofs.digits.put_small.Goals as goal
+
+pub put_decimal-requires : goal.put_decimal-requires
+put_decimal-requires c = omega (arith, byte_digits c.args.n (omega arith))
+
+pub returns : goal.returns
+returns c =
+    let n = c.args.n in
+    (then c.put_byte-next.ensures c.put_decimal.ensures, omega (arith, byte_digits n (omega arith)))

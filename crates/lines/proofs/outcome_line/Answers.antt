@@ -1,0 +1,15 @@
+-- `lines::outcome_line` meets its contract.
+use mathlib.Core.Path.{sym, ◌∙◌}
+use borrow.Author.Rules.{rules}
+use borrow.Author.Tests.{leb-true}
+use Rattle.lines.proofs.Putting.{roomy, full}
+use Rattle.lines.proofs.outcome_line.Goals as goal
+
+pub put_outcome-requires : goal.put_outcome-requires
+put_outcome-requires c = leb-true _ _ (sym c.has_room.ensures ∙ c.if-has_room.true)
+
+pub returns-then-has_room : goal.returns-then-has_room
+returns-then-has_room c = roomy (sym c.has_room.ensures ∙ c.if-has_room.true) c.put_outcome.ensures
+
+pub returns-else-has_room : goal.returns-else-has_room
+returns-else-has_room c = full (sym c.has_room.ensures ∙ c.if-has_room.false)

@@ -1,0 +1,16 @@
+-- `lines::put_fields` meets its contract.
+use native.Mathlib.Omega.{arith}
+use borrow.Author.Rules.{rules}
+use Rattle.lines.specs.Lines.{fields_line}
+use Rattle.lines.proofs.Putting.{then}
+use Rattle.lines.proofs.put_fields.Goals as goal
+
+pub returns : goal.returns
+unfolding fields_line
+returns c =
+    let text =
+    then c.put_byte-next.ensures
+    (then c.put_small-next.ensures.0
+    (then c.put_small-next-2.ensures.0
+    (then c.put_small-next-3.ensures.0 (then c.put_number-next.ensures.0 c.put_byte.ensures)))) in
+    rw (← c.flag_of.ensures) (text, omega arith)

@@ -1,0 +1,6 @@
+-- `transfers::write_or` meets its contract.
+use borrow.Author.Rules.{rules}
+use Rattle.transfers.proofs.write_or.Goals as goal
+
+pub returns : goal.returns
+returns c = rw c.or_byte.ensures at c.write.ensures

@@ -1,0 +1,6 @@
+-- `transfers::write_rate` meets its contract.
+use borrow.Author.Rules.{rules}
+use Rattle.transfers.proofs.write_rate.Goals as goal
+
+pub returns : goal.returns
+returns c = rw (c.rate_in.ensures, c.signal_rate_limit_word.ensures) at c.write_word.ensures

@@ -1,0 +1,6 @@
+-- `transfers::write_stop` meets its contract.
+use borrow.Author.Rules.{rules}
+use Rattle.transfers.proofs.write_stop.Goals as goal
+
+pub returns : goal.returns
+returns c = rw c.held.ensures at c.write.ensures

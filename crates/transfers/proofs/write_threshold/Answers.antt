@@ -1,0 +1,6 @@
+-- `transfers::write_threshold` meets its contract.
+use borrow.Author.Rules.{rules}
+use Rattle.transfers.proofs.write_threshold.Goals as goal
+
+pub returns : goal.returns
+returns c = rw c.encode_threshold.ensures at c.write_word.ensures
