@@ -10,6 +10,6 @@ unfolding answer_line
 returns c =
     let text =
     then c.put_byte-next.ensures
-    (then c.put_small-next.ensures.0
-    (then c.put_number-next.ensures.0 (then c.put_number-next-2.ensures.0 c.put_byte.ensures))) in
+    (then c.put_small-next.ensures.put
+    (then c.put_number-next.ensures.put (then c.put_number-next-2.ensures.put c.put_byte.ensures))) in
     (text, omega arith)

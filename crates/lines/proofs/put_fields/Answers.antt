@@ -10,7 +10,7 @@ unfolding fields_line
 returns c =
     let text =
     then c.put_byte-next.ensures
-    (then c.put_small-next.ensures.0
-    (then c.put_small-next-2.ensures.0
-    (then c.put_small-next-3.ensures.0 (then c.put_number-next.ensures.0 c.put_byte.ensures)))) in
+    (then c.put_small-next.ensures.put
+    (then c.put_small-next-2.ensures.put
+    (then c.put_small-next-3.ensures.put (then c.put_number-next.ensures.put c.put_byte.ensures)))) in
     rw (← c.flag_of.ensures) (text, omega arith)

@@ -12,5 +12,5 @@ returns c =
     then c.put_byte-next.ensures
     (then c.put_byte-next-2.ensures
     (then c.put_pair-next.ensures
-    (then c.put_byte-next-3.ensures (then c.put_pairs-next.ensures.0 (then c.put_small-next.ensures.0 c.put_byte.ensures))))) in
+    (then c.put_byte-next-3.ensures (then c.put_pairs-next.ensures.put (then c.put_small-next.ensures.put c.put_byte.ensures))))) in
     (text, omega arith)

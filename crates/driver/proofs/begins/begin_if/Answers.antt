@@ -8,24 +8,24 @@ use Rattle.driver.proofs.begins.begin_if.Goals as goal
 pub begin_up-requires : goal.begin_up-requires
 begin_up-requires c =
     let a = c.args in
-    sound_begun a.s a.code a.a a.b _ (sym c.requires.1 ∙ c.if-ok.true) c.begun.ensures
+    sound_begun a.s a.code a.a a.b _ (sym c.requires.ok_value ∙ c.if-ok.true) c.begun.ensures
 
 pub returns-then-ill : goal.returns-then-ill
 returns-then-ill c =
     let a = c.args in
-    reaches_as c.broken.ensures (begin_broken a.s a.code a.a a.b (sym c.requires.0 ∙ c.if-ill.true))
+    reaches_as c.broken.ensures (begin_broken a.s a.code a.a a.b (sym c.requires.ill_value ∙ c.if-ill.true))
 
 pub returns-then-s-eq0 : goal.returns-then-s-eq0
 returns-then-s-eq0 c =
     let a = c.args in
-    reaches_as (rw (c.not_up.ensures, c.begun.ensures) at c.begin_up.ensures) (begin_on a.s a.code a.a a.b (sym c.requires.0 ∙ c.if-ill.false) (sym c.requires.1 ∙ c.if-ok.true) (search rules))
+    reaches_as (rw (c.not_up.ensures, c.begun.ensures) at c.begin_up.ensures) (begin_on a.s a.code a.a a.b (sym c.requires.ill_value ∙ c.if-ill.false) (sym c.requires.ok_value ∙ c.if-ok.true) (search rules))
 
 pub returns-else-s-eq0 : goal.returns-else-s-eq0
 returns-else-s-eq0 c =
     let a = c.args in
-    reaches_as c.refuse.ensures (begin_10 a.s a.code a.a a.b (sym c.requires.0 ∙ c.if-ill.false) (sym c.requires.1 ∙ c.if-ok.true) c.if-s-eq0.false)
+    reaches_as c.refuse.ensures (begin_10 a.s a.code a.a a.b (sym c.requires.ill_value ∙ c.if-ill.false) (sym c.requires.ok_value ∙ c.if-ok.true) c.if-s-eq0.false)
 
 pub returns-else-ok : goal.returns-else-ok
 returns-else-ok c =
     let a = c.args in
-    reaches_as c.refuse-else-ok.ensures (begin_13 a.s a.code a.a a.b (sym c.requires.0 ∙ c.if-ill.false) (sym c.requires.1 ∙ c.if-ok.false))
+    reaches_as c.refuse-else-ok.ensures (begin_13 a.s a.code a.a a.b (sym c.requires.ill_value ∙ c.if-ill.false) (sym c.requires.ok_value ∙ c.if-ok.false))

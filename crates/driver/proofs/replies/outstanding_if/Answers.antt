@@ -14,7 +14,10 @@ pub transfer_of-requires : goal.transfer_of-requires
 transfer_of-requires c =
     let s = c.args.s in
     let h = waiting_sound s (sym c.requires ∙ c.if-ill.false) c.if-s-eq0.false in
-    (well_formed s h, subst (λ (i : Instruction). s.a ≤ most_at i) (sym c.instruction_at.ensures) (written_fits s.code s.a s.b (arguments_sound s h) s.step))
+    record {
+      sound = well_formed s h;
+      a_bound = subst (λ (i : Instruction). s.a ≤ most_at i) (sym c.instruction_at.ensures) (written_fits s.code s.a s.b (arguments_sound s h) s.step);
+    }
 
 pub returns-then-ill : goal.returns-then-ill
 returns-then-ill c = c.no_transfer.ensures ∙ out_ill c.args.s (sym c.requires ∙ c.if-ill.true)

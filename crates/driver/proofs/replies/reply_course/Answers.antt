@@ -8,7 +8,7 @@ pub reply_at-requires : goal.reply_at-requires
 reply_at-requires c =
     let i = c.instruction_at-i.ensures in
     let x = c.shape_of-x.ensures in
-    ((rw (x, i) at c.ill_formed_at.ensures) ∙ ill_is c.args.s, (i, x))
+    record { ill_value = (rw (x, i) at c.ill_formed_at.ensures) ∙ ill_is c.args.s; i_value = i; x_value = x }
 
 pub returns : goal.returns
 returns c = c.reply_at.ensures

@@ -30,17 +30,13 @@ pub loop-i-preserved : goal.loop-i-preserved
 loop-i-preserved c =
     let a = c.args in
     let i = c.loop-i.i in
-    let e : length a.t3 ≡ 7 = c.well_formed.1.1.0.1.0.1 in
-    let h : i < length a.t3 = omega arith in
-    (omega arith, omega arith, omega arith, rw (add-one i, pairs_suc a.t3 i) (then c.loop-i.invariant.3 c.put_pair-next.ensures))
-
--- GONE same-length
--- same_length : tie.Need-same-length invariant-loop decreases-loop
--- same_length c = c.before.loop.invariant.2
+    let e : length a.written ≡ 7 = c.well_formed.1.1.0.1.0.1 in
+    let h : i < length a.written = omega arith in
+    (omega arith, omega arith, omega arith, rw (add-one i, pairs_suc a.written i) (then c.loop-i.invariant.3 c.put_pair-next.ensures))
 
 pub returns : goal.returns
 returns c =
     let a = c.args in
     let e : c.loop-i.i ≡ min a.count 7 = omega arith in
-    let n : length a.t3 ≡ 7 = c.well_formed.1.1.0.1.0.1 in
-    (rw (← take_least a.t3 a.count 7, ← e) c.loop-i.invariant.3, omega arith)
+    let n : length a.written ≡ 7 = c.well_formed.1.1.0.1.0.1 in
+    record { put = rw (← take_least a.written a.count 7, ← e) c.loop-i.invariant.3; upper_bound = omega arith }

@@ -11,4 +11,4 @@ put_decimal-requires c = omega (arith, byte_digits c.args.n (omega arith))
 pub returns : goal.returns
 returns c =
     let n = c.args.n in
-    (then c.put_byte-next.ensures c.put_decimal.ensures, omega (arith, byte_digits n (omega arith)))
+    record { put = then c.put_byte-next.ensures c.put_decimal.ensures; upper_bound = omega (arith, byte_digits n (omega arith)) }
