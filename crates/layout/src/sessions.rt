@@ -25,7 +25,7 @@ fn carried_in(lent: &[u8]) -> [u8; 24]
     ensures { result ≡ drop 28 lent.now }
 {
     let mut carried = [0; 24];
-    bytes::copy(&lent[28..], &mut carried);
+    carried.copy_from_slice(&lent[28..]);
     carried
 }
 

@@ -174,7 +174,7 @@ fn run_whole(ill: bool, s: Session, bytes: &[u8]) -> ListRun
 // The run of a list of records from any session.
 pub fn run(s: Session, bytes: &[u8]) -> ListRun
     ensures value { result ≡ list_run_of (run_def s bytes.now) }
-    ensures bytes_value { bytes.now ≡ bytes.now }
+    ensures bytes_kept { bytes.exit.now ≡ bytes.entry.now }
 {
     if bytes.len() % 8 == 0 {
         run_whole(checks::ill_formed(s), s, bytes)
@@ -186,7 +186,7 @@ pub fn run(s: Session, bytes: &[u8]) -> ListRun
 // The run of a list from a fresh session: demand 3 holds of it.
 pub fn run_fresh(bytes: &[u8]) -> ListRun
     ensures runs_fresh { RunsFresh bytes.now result }
-    ensures bytes_value { bytes.now ≡ bytes.now }
+    ensures bytes_kept { bytes.exit.now ≡ bytes.entry.now }
 {
     run(driver::fresh(), bytes)
 }

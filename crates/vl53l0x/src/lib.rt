@@ -73,7 +73,7 @@ fn put_outstanding(s: Session, outcome: &mut [u8]) -> u8
 pub extern "C" fn vl53l0x_outstanding(session: &[u8], outcome: &mut [u8]) -> u8
     ensures outcome_after { outcome.new ≡ placed outcome_size outcome.old (outstanding_in session.now) }
     ensures value { result ≡ placed_number outcome.old (outstanding_in session.now) }
-    ensures session_value { session.now ≡ session.now }
+    ensures session_kept { session.exit.now ≡ session.entry.now }
 {
     if layout::is_session(session) {
         put_outstanding(layout::session_in(session), outcome)

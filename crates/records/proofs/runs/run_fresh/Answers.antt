@@ -1,0 +1,12 @@
+-- `records::runs::run_fresh` meets its contract.
+use mathlib.Core.Path.{refl}
+use borrow.Author.Rules.{rules}
+use Rattle.records.proofs.Meets.{fresh_run}
+use Rattle.records.proofs.runs.run_fresh.Goals as goal
+
+pub returns : goal.returns
+returns c =
+    record {
+      runs_fresh = fresh_run c.args.bytes.now c.fresh.result c.run.result c.run.ensures.value c.fresh.ensures;
+      bytes_kept = refl;
+    }

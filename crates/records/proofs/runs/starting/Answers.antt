@@ -1,0 +1,6 @@
+-- `records::runs::starting` meets its contract.
+use borrow.Author.Rules.{rules}
+use Rattle.records.proofs.runs.starting.Goals as goal
+
+pub returns : goal.returns
+returns c = rw c.no_counts.ensures at c.standing.ensures
