@@ -36,7 +36,7 @@ pub extern "C" fn vl53l0x_step(session: &mut [u8], record: &[u8], outcome: &mut 
     ensures session_after { session.new ≡ step_session session.old «record».now outcome.old }
     ensures outcome_after { outcome.new ≡ placed outcome_size outcome.old (step_outcome session.old «record».now) }
     ensures value { result ≡ placed_number outcome.old (step_outcome session.old «record».now) }
-    ensures record_value { «record».now ≡ «record».now }
+    ensures record_kept { «record».exit.now ≡ «record».entry.now }
 {
     if outcome.len() != 11 {
         return 17;

@@ -8,9 +8,9 @@ use Rattle.layout.proofs.outcomes.put_refusal.Goals as goal
 pub returns-then-lent-eq11 : goal.returns-then-lent-eq11
 returns-then-lent-eq11 c =
     let e = eq-eqb (length c.args.lent.now) 11 c.if-lent-eq11.true in
-    (rw (e, ← c.number_of.ensures) c.write_answer.ensures.lent_after, rw (e, ← c.number_of.ensures) c.write_answer.ensures.value)
+    record { lent_after = rw (e, ← c.number_of.ensures) c.write_answer.ensures.lent_after; value = rw (e, ← c.number_of.ensures) c.write_answer.ensures.value }
 
 pub returns-else-lent-eq11 : goal.returns-else-lent-eq11
 returns-else-lent-eq11 c =
     let e = ne_eqb (length c.args.lent.now) 11 c.if-lent-eq11.false in
-    (rw e refl, rw e refl)
+    record { lent_after = rw e refl; value = rw e refl }

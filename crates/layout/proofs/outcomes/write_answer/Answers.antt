@@ -8,4 +8,8 @@ use Rattle.layout.proofs.outcomes.write_answer.Goals as goal
 
 pub returns : goal.returns
 unfolding answer_bytes
-returns c = (fills (then c.put_byte-next.ensures (then c.put_long-next.ensures (then c.put_long-next-2.ensures c.put_word.ensures))) c.requires, refl)
+returns c =
+    record {
+      lent_after = fills (then c.put_byte-next.ensures (then c.put_long-next.ensures (then c.put_long-next-2.ensures c.put_word.ensures))) c.requires;
+      value = refl;
+    }

@@ -11,4 +11,7 @@ pub returns : goal.returns
 unfolding transfer_bytes
 returns c =
     let t = c.args.t in
-    (fills (then c.put_byte-next.ensures (then c.put_byte-next-2.ensures (then c.put_byte-next-3.ensures (then c.put_written-next.ensures.put c.put_byte.ensures)))) (c.requires ∙ framed 16 t.address t.count t.reads t.written (omega (arith, c.put_written-next.ensures.put.ends, c.put_written-next.ensures.value))), refl)
+    record {
+      lent_after = fills (then c.put_byte-next.ensures (then c.put_byte-next-2.ensures (then c.put_byte-next-3.ensures (then c.put_written-next.ensures.put c.put_byte.ensures)))) (c.requires ∙ framed 16 t.address t.count t.reads t.written (omega (arith, c.put_written-next.ensures.put.ends, c.put_written-next.ensures.value)));
+      value = refl;
+    }

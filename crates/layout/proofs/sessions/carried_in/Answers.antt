@@ -11,9 +11,4 @@ use borrow.Author.Rules.{rules}
 use Rattle.layout.proofs.sessions.carried_in.Goals as goal
 
 pub returns : goal.returns
-returns c =
-    let l : List ℕ = c.args.lent.now in
-    let part : List ℕ = take (length l - 28) (drop 28 l) in
-    let h : length part ≡ 24 = rw (tail 28 l, length-drop) (omega arith) in
-    let e : c.copy.new.1.0 ≡ take (length part) part ++ drop (length part) zeros = c.copy.ensures.1 in
-    e ∙ copied part zeros (omega arith) ∙ tail 28 l
+returns c = c.copy_from_slice.ensures.after ∙ tail 28 c.args.lent.now

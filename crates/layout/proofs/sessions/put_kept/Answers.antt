@@ -5,4 +5,8 @@ use borrow.Author.Rules.{rules}
 use Rattle.layout.proofs.sessions.put_kept.Goals as goal
 
 pub returns : goal.returns
-returns c = (then c.put_byte-next.ensures (then c.put_long-next.ensures c.put_carried.ensures.put), omega (arith, c.put_byte-next.ensures.ends, c.put_long-next.ensures.ends))
+returns c =
+    record {
+      put = then c.put_byte-next.ensures (then c.put_long-next.ensures c.put_carried.ensures.put);
+      value = omega (arith, c.put_byte-next.ensures.ends, c.put_long-next.ensures.ends);
+    }
