@@ -1,4 +1,3 @@
-pub mod Held
 pub mod ByKind
 pub mod InOrder
 pub mod Agrees
