@@ -1,52 +1,36 @@
 // The bench values of 01 that are run: the numbers of calls 14, 10 and 11. What stands in `stdout`
 // is 01's.
-use libc::STDOUT_FILENO;
+#![tactic(auto)]
+
 use rate::RateWord;
+use std::io;
 use threshold::{Millimeters, ThresholdCheck};
 
-fn text(bytes: &[u8]) {
-    io::write_all(STDOUT_FILENO, bytes);
-}
-
-fn number(n: u16) {
-    io::print_decimal(STDOUT_FILENO, n as u64);
-}
-
-fn writes(word: u16) {
-    text(b" writes ");
-    number(word);
-}
-
-fn rate_line(name: &[u8], bits: u32) {
-    text(name);
+fn rate_line(rt: &impl Print, name: &str, bits: u32) -> io::Result<()> {
     match rate::signal_rate_limit_word(bits) {
-        RateWord::Word(word) => writes(word),
-        RateWord::Refused => text(b" refused"),
+        RateWord::Word(word) => println!(rt; "{name} writes {word}"),
+        RateWord::Refused => println!(rt; "{name} refused"),
     }
-    text(b"\n");
 }
 
-fn threshold_line(mm: u16) {
-    number(mm);
+fn threshold_line(rt: &impl Print, mm: u16) -> io::Result<()> {
     match threshold::check_thresholds(Millimeters(0), Millimeters(mm)) {
-        ThresholdCheck::Valid => text(b" accepted\n"),
-        ThresholdCheck::InvalidArgument => text(b" refused\n"),
+        ThresholdCheck::Valid => println!(rt; "{mm} accepted"),
+        ThresholdCheck::InvalidArgument => println!(rt; "{mm} refused"),
     }
 }
 
-fn read_back_line(mm: u16) {
-    number(mm);
-    text(b" reads back ");
+fn read_back_line(rt: &impl Print, mm: u16) -> io::Result<()> {
     let raw = threshold::encode_threshold(Millimeters(mm));
-    number(threshold::decode_threshold(raw).0);
-    text(b"\n");
+    let read = threshold::decode_threshold(raw).0;
+    println!(rt; "{mm} reads back {read}")
 }
 
-fn main() {
-    rate_line(b"0.25", 0x3E80_0000);
-    rate_line(b"43FFFEB8", 0x43FF_FEB8);
-    rate_line(b"43FFFEB9", 0x43FF_FEB9);
-    threshold_line(8190);
-    threshold_line(8191);
-    read_back_line(301);
+fn main(rt: HostRuntime) -> io::Result<()> {
+    rate_line(&rt, "0.25", 0x3E80_0000)?;
+    rate_line(&rt, "43FFFEB8", 0x43FF_FEB8)?;
+    rate_line(&rt, "43FFFEB9", 0x43FF_FEB9)?;
+    threshold_line(&rt, 8190)?;
+    threshold_line(&rt, 8191)?;
+    read_back_line(&rt, 301)
 }

@@ -1,9 +1,12 @@
 // Standard input to standard output: records in, lines out, block by block.
-ghost use Rattle.std.specs.Prelude.{◌≡◌, length};
+#![tactic(auto)]
+
+ghost use Rattle.std.specs.Prelude.{◌≤◌, length, IfOk};
 
 use blocks::Show;
-use libc::{STDIN_FILENO, STDOUT_FILENO};
 use session::Session;
+use std::io;
+use std::io::{ErrorKind, Read, Write};
 
 // The session after a block, and whether there may be another.
 #[derive(Clone, Copy)]
@@ -12,50 +15,89 @@ struct Printed {
     more: bool,
 }
 
-// Spare bytes at the end are answer 14. They are no record, so that no fields follow them.
-fn spare(show: Show) {
-    match show {
-        Show::Outcomes => {
-            io::write_all(STDOUT_FILENO, b"A 14 0 0\n");
+// A pipe gives its bytes in pieces of any length: only the end of the input leaves a block short.
+fn read_full<R: Read>(reader: &mut R, block: &mut [u8]) -> io::Result<usize>
+    ensures { IfOk result (λ n. n ≤ length block.new) }
+{
+    let mut done = 0;
+    for _ in 0..u64::MAX {
+        if done == block.len() {
+            break;
         }
-        Show::Fields => {}
+        match reader.read(&mut block[done..]) {
+            Ok(0) => break,
+            Ok(n) => done += n,
+            Err(e) => {
+                // A signal came before any byte did.
+                if e.kind() != ErrorKind::Interrupted {
+                    return Err(e);
+                }
+            }
+        }
+    }
+    Ok(done)
+}
+
+// Spare bytes at the end are answer 14. They are no record, so that no fields follow them.
+fn spare<W: Write>(writer: &mut W, show: Show) -> io::Result<()> {
+    match show {
+        Show::Outcomes => writer.write_all(b"A 14 0 0\n"),
+        Show::Fields => Ok(()),
     }
 }
 
 // A short block is the last.
-fn print_block(show: Show, s: Session, block: &mut [u8], text: &mut [u8]) -> Printed {
-    let n = io::read_full(STDIN_FILENO, block);
+fn print_block<R: Read, W: Write>(
+    reader: &mut R,
+    writer: &mut W,
+    show: Show,
+    s: Session,
+    block: &mut [u8],
+    text: &mut [u8],
+) -> io::Result<Printed> {
+    let n = read_full(reader, block)?;
     let p = blocks::print(show, s, &block[..n], text);
     let count = p.count;
     let session = p.session;
-    let written = io::write_all(STDOUT_FILENO, &text[..count]);
+    writer.write_all(&text[..count])?;
     if n % 8 != 0 {
-        spare(show);
+        spare(writer, show)?;
     }
-    Printed {
+    Ok(Printed {
         session,
-        more: written && n == block.len(),
-    }
+        more: n == block.len(),
+    })
 }
 
-// Nothing says that the input ends, so the loop counts its turns down.
-fn print_blocks(show: Show, block: &mut [u8], text: &mut [u8]) {
+// Nothing says that the input ends, so the loop counts its turns.
+fn print_blocks<R: Read, W: Write>(
+    reader: &mut R,
+    writer: &mut W,
+    show: Show,
+    block: &mut [u8],
+    text: &mut [u8],
+) -> io::Result<()> {
     let mut s = driver::fresh();
-    let mut turns = u64::MAX;
-    while turns > 0 {
-        let p = print_block(show, s, block, text);
+    for _ in 0..u64::MAX {
+        let p = print_block(reader, writer, show, s, block, text)?;
         let next = p.session;
         s = next;
         if !p.more {
-            return;
+            break;
         }
-        turns -= 1;
     }
+    Ok(())
 }
 
 // A block is a quarter of the text, so that the lines of its records fit.
-pub fn run(show: Show) {
+pub fn run(rt: &(impl Input + Print), show: Show) -> io::Result<()> {
     let mut block = [0u8; 16384];
-    let mut text = io::large_buffer();
-    print_blocks(show, &mut block, &mut text);
+    let mut text = [0u8; 65536];
+    print_blocks(
+        &mut rt.reader(),
+        &mut io::writer(rt),
+        show,
+        &mut block,
+        &mut text,
+    )
 }

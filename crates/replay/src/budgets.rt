@@ -2,76 +2,82 @@
 use crate::{clocks, print, record};
 use budget::{DssTerm, WordOr};
 use clock::Microseconds;
+use std::io;
+use std::io::Write;
 use timing::{PlaceOr, TimingRegisters};
 
-fn replies(b: [u8; 8]) {
-    print::hex(b[0]);
-    print::space();
-    print::hex_word(b[1], b[2]);
-    print::space();
-    print::hex_word(b[3], b[4]);
-    print::space();
-    print::hex(b[5]);
-    print::space();
-    print::hex(b[6]);
-    print::space();
-    print::hex(b[7]);
-    print::space();
+fn replies(out: &mut impl Write, b: [u8; 8]) -> io::Result<()> {
+    print::hex(out, b[0])?;
+    print::space(out)?;
+    print::hex_word(out, b[1], b[2])?;
+    print::space(out)?;
+    print::hex_word(out, b[3], b[4])?;
+    print::space(out)?;
+    print::hex(out, b[5])?;
+    print::space(out)?;
+    print::hex(out, b[6])?;
+    print::space(out)?;
+    print::hex(out, b[7])?;
+    print::space(out)
 }
 
-fn word_or(answer: WordOr) {
+fn word_or(out: &mut impl Write, answer: WordOr) -> io::Result<()> {
     match answer {
-        WordOr::Word(w) => print::word(w),
-        WordOr::NoTime => print::text(b"N"),
-        WordOr::Place(p) => print::place(p),
+        WordOr::Word(w) => print::word(out, w),
+        WordOr::NoTime => print::text(out, b"N"),
+        WordOr::Place(p) => print::place(out, p),
     }
 }
 
-fn reply_and_place(known: u8, place: u8) -> bool {
-    print::byte(known);
-    print::text(b":");
-    print::place(place);
-    true
+fn reply_and_place(out: &mut impl Write, known: u8, place: u8) -> io::Result<bool> {
+    print::byte(out, known)?;
+    print::text(out, b":")?;
+    print::place(out, place)?;
+    Ok(true)
 }
 
 // Whether the first `known` replies have a place; if so, it is written.
-fn has_place(r: TimingRegisters, known: u8) -> bool {
+fn has_place(out: &mut impl Write, r: TimingRegisters, known: u8) -> io::Result<bool> {
     match timing::first_place(r, known) {
-        PlaceOr::Place(p) => reply_and_place(known, p),
-        PlaceOr::Clear => false,
+        PlaceOr::Place(p) => reply_and_place(out, known, p),
+        PlaceOr::Clear => Ok(false),
     }
 }
 
 // The reply that brought the first place.
-fn first_place(r: TimingRegisters) {
-    if has_place(r, 1)
-        || has_place(r, 2)
-        || has_place(r, 3)
-        || has_place(r, 4)
-        || has_place(r, 5)
-        || has_place(r, 6)
+fn first_place(out: &mut impl Write, r: TimingRegisters) -> io::Result<()> {
+    if has_place(out, r, 1)?
+        || has_place(out, r, 2)?
+        || has_place(out, r, 3)?
+        || has_place(out, r, 4)?
+        || has_place(out, r, 5)?
+        || has_place(out, r, 6)?
     {
-        return;
+        return Ok(());
     }
-    print::text(b"-");
+    print::text(out, b"-")
 }
 
-fn answers(r: TimingRegisters, budget: u32) {
-    print::number(budget);
-    print::space();
-    clocks::microseconds(budget::measurement_timing_budget(r));
-    print::space();
-    word_or(budget::final_range_word(r, Microseconds(budget), DssTerm::Once));
-    print::space();
-    first_place(r);
+fn answers(out: &mut impl Write, r: TimingRegisters, budget: u32) -> io::Result<()> {
+    print::number(out, budget)?;
+    print::space(out)?;
+    clocks::microseconds(out, budget::measurement_timing_budget(r))?;
+    print::space(out)?;
+    word_or(
+        out,
+        budget::final_range_word(r, Microseconds(budget), DssTerm::Once),
+    )?;
+    print::space(out)?;
+    first_place(out, r)
 }
 
-pub fn measurement_timing_budget(r: [u8; 13]) {
+pub fn measurement_timing_budget(out: &mut impl Write, r: [u8; 13]) -> io::Result<()> {
     let bytes = [r[1], r[2], r[3], r[4], r[5], r[6], r[7], r[8]];
-    print::text(b"budget ");
-    replies(bytes);
+    print::text(out, b"budget ")?;
+    replies(out, bytes)?;
     answers(
+        out,
         timing::timing_registers(bytes),
         record::number(r[9], r[10], r[11], r[12]),
-    );
+    )
 }

@@ -1,46 +1,42 @@
-// Standard output.
-use libc::STDOUT_FILENO;
+// What is printed, piece by piece.
+use std::io;
+use std::io::Write;
 
-pub fn text(bytes: &[u8]) {
-    io::write_all(STDOUT_FILENO, bytes);
+pub fn text(out: &mut impl Write, bytes: &[u8]) -> io::Result<()> {
+    out.write_all(bytes)
 }
 
-pub fn space() {
-    text(b" ");
+pub fn space(out: &mut impl Write) -> io::Result<()> {
+    text(out, b" ")
 }
 
-pub fn line_end() {
-    text(b"\n");
+pub fn line_end(out: &mut impl Write) -> io::Result<()> {
+    text(out, b"\n")
 }
 
-pub fn number(n: u32) {
-    io::print_decimal(STDOUT_FILENO, n as u64);
+pub fn number(out: &mut impl Write, n: u32) -> io::Result<()> {
+    write!(out, "{n}")
 }
 
-pub fn word(n: u16) {
-    number(n as u32);
+pub fn word(out: &mut impl Write, n: u16) -> io::Result<()> {
+    number(out, n as u32)
 }
 
-pub fn byte(n: u8) {
-    number(n as u32);
+pub fn byte(out: &mut impl Write, n: u8) -> io::Result<()> {
+    number(out, n as u32)
 }
 
 // A place of the arithmetic at which the Rust panics.
-pub fn place(n: u8) {
-    text(b"P");
-    byte(n);
+pub fn place(out: &mut impl Write, n: u8) -> io::Result<()> {
+    text(out, b"P")?;
+    byte(out, n)
 }
 
-fn digit(n: u8) -> u8 {
-    let d = n % 16;
-    if d < 10 { 48 + d } else { 55 + d }
+pub fn hex(out: &mut impl Write, n: u8) -> io::Result<()> {
+    write!(out, "{n:02X}")
 }
 
-pub fn hex(n: u8) {
-    text(&[digit(n / 16), digit(n)]);
-}
-
-pub fn hex_word(high: u8, low: u8) {
-    hex(high);
-    hex(low);
+pub fn hex_word(out: &mut impl Write, high: u8, low: u8) -> io::Result<()> {
+    hex(out, high)?;
+    hex(out, low)
 }

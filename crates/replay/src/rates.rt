@@ -1,18 +1,23 @@
 // What the crate rate answers.
 use crate::{print, record};
 use rate::RateWord;
+use std::io;
+use std::io::Write;
 
-fn word_or_refused(answer: RateWord) {
+fn word_or_refused(out: &mut impl Write, answer: RateWord) -> io::Result<()> {
     match answer {
-        RateWord::Word(w) => print::word(w),
-        RateWord::Refused => print::text(b"refused"),
+        RateWord::Word(w) => print::word(out, w),
+        RateWord::Refused => print::text(out, b"refused"),
     }
 }
 
-pub fn signal_rate_limit_word(r: [u8; 13]) {
-    print::text(b"rate ");
-    print::hex_word(r[1], r[2]);
-    print::hex_word(r[3], r[4]);
-    print::space();
-    word_or_refused(rate::signal_rate_limit_word(record::number(r[1], r[2], r[3], r[4])));
+pub fn signal_rate_limit_word(out: &mut impl Write, r: [u8; 13]) -> io::Result<()> {
+    print::text(out, b"rate ")?;
+    print::hex_word(out, r[1], r[2])?;
+    print::hex_word(out, r[3], r[4])?;
+    print::space(out)?;
+    word_or_refused(
+        out,
+        rate::signal_rate_limit_word(record::number(r[1], r[2], r[3], r[4])),
+    )
 }

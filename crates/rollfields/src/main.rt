@@ -1,6 +1,9 @@
 // Reads records from standard input into a fresh session, and writes the driver's fields after each.
-use blocks::Show;
+#![tactic(auto)]
 
-fn main() {
-    console::run(Show::Fields);
+use blocks::Show;
+use std::io;
+
+fn main(rt: HostRuntime) -> io::Result<()> {
+    console::run(&rt, Show::Fields)
 }

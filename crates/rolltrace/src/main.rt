@@ -1,6 +1,9 @@
 // Reads records from standard input into a fresh session, and writes what each gives: a transfer or an answer.
-use blocks::Show;
+#![tactic(auto)]
 
-fn main() {
-    console::run(Show::Outcomes);
+use blocks::Show;
+use std::io;
+
+fn main(rt: HostRuntime) -> io::Result<()> {
+    console::run(&rt, Show::Outcomes)
 }
