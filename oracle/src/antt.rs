@@ -57,7 +57,7 @@ fn fields(fields: Option<Fields>) -> String {
 
 fn text(file: &File) -> String {
     let mut text = format!("-- Written by oracle/traces from the Rust. {}\n", file.about);
-    text += "use mathlib.Core.List.{List, [], _∷_}\nuse Rattle·traces·specs.specs.Trace.{Trace}\n";
+    text += "use Rattle.std.specs.Prelude.{List, [], ◌∷◌}\nuse Rattle.traces.specs.Trace.{Trace}\n";
     for trace in &file.traces {
         let name = &trace.name;
         write!(text, "\nabbrev pub {name} : Trace\n{name} =\n    record {{\n").unwrap();

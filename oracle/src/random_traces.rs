@@ -81,7 +81,7 @@ pub fn bring_ups() -> Vec<Trace> {
     let mut numbers = Numbers::new(7);
     let mut traces = Vec::new();
     for index in 1..=2 {
-        let trace = Trace::new(format!("randomBringUp{index}"), None);
+        let trace = Trace::new(format!("random_bring_up{index}"), None);
         let call = Call::WithAddress(numbers.byte());
         traces.push(on(trace, call, &mut numbers, 400));
     }

@@ -62,19 +62,19 @@ pub fn files() -> Vec<File> {
     let loud = Trace::new("loud", None).call(Call::WithAddress(0xFF), loud()).answered(0, 0);
     let file = |module, about, list, traces| File { module, about, list, traces };
     vec![
-        file("BringUp", "Bring-ups that succeed.", "bringUps", vec![calm, loud]),
-        file("InUse", "A bring-up and many calls after it.", "inUse", vec![in_use()]),
+        file("BringUp", "Bring-ups that succeed.", "bring_ups", vec![calm, loud]),
+        file("InUse", "A bring-up and many calls after it.", "in_use", vec![in_use()]),
         file("Measuring", "Calls 2 to 8, answered Done.", "measuring", measuring(up)),
         file("Settings", "Calls 9 to 15, answered Done.", "settings", settings(up)),
-        file("BringUpFailures", "Bring-ups that end early.", "failedBringUps", failed_bring_ups(up)),
-        file("RangeFailures", "Failed transfers in calls 6, 7 and 8.", "failedRanges", failed_ranges(up)),
-        file("CallFailures", "Failed transfers in the other calls.", "failedCalls", failed_calls(up)),
-        file("BringUpBudgets", "Bring-ups that set no budget.", "unsetBudgets", unset_budgets()),
-        file("BringUpPanics", "Bring-ups that panic.", "brokenBringUps", broken_bring_ups()),
+        file("BringUpFailures", "Bring-ups that end early.", "failed_bring_ups", failed_bring_ups(up)),
+        file("RangeFailures", "Failed transfers in calls 6, 7 and 8.", "failed_ranges", failed_ranges(up)),
+        file("CallFailures", "Failed transfers in the other calls.", "failed_calls", failed_calls(up)),
+        file("BringUpBudgets", "Bring-ups that set no budget.", "unset_budgets", unset_budgets()),
+        file("BringUpPanics", "Bring-ups that panic.", "broken_bring_ups", broken_bring_ups()),
         file("Panics", "Calls 4, 15 and 9 up to each place, and call 9 with no time left.", "places", places(up)),
-        file("AtOnce", "Calls that are answered without a transfer.", "atOnce", at_once(up)),
+        file("AtOnce", "Calls that are answered without a transfer.", "at_once", at_once(up)),
         file("Random", "Calls with pseudo-random arguments, replies and failures.", "random", random::calls()),
-        file("RandomBringUp", "Bring-ups with pseudo-random replies.", "randomBringUps", random::bring_ups()),
+        file("RandomBringUp", "Bring-ups with pseudo-random replies.", "random_bring_ups", random::bring_ups()),
     ]
 }
 
@@ -92,19 +92,20 @@ fn measuring(up: Fields) -> Vec<Trace> {
     let done = |name, call, sensor| Trace::new(name, Some(up)).call(call, sensor);
     let oscillator = |word: u16| silent().at(0xF8, &[word.to_be_bytes()]);
     vec![
-        done("whoAmI", Call::WhoAmI, silent().at(0xC0, &[[0xAA]])).answered(0, 0xAA),
-        done("setAddress", Call::SetAddress(0x77), silent())
+        done("who_am_i_call", Call::WhoAmI, silent().at(0xC0, &[[0xAA]])).answered(0, 0xAA),
+        done("set_address_call", Call::SetAddress(0x77), silent())
             .call(Call::SetAddress(0x08), silent())
             .call(Call::WhoAmI, silent().at(0xC0, &[[0xEE]]))
             .answered(0, 0xEE),
-        done("startBackToBack", Call::StartContinuous(0), silent()).answered(0, 0),
-        done("startTimed", Call::StartContinuous(1000), oscillator(0x0190)).answered(0, 0),
-        done("startUncalibrated", Call::StartContinuous(1000), oscillator(0)).answered(0, 0),
-        done("startLongest", Call::StartContinuous(65537), oscillator(0xFFFF)).answered(0, 0),
-        done("stopContinuous", Call::StopContinuous, silent()).answered(0, 0),
-        done("readRange", Call::ReadRange, ranging(&[[0x07]])).answered(0, 300),
-        done("readRangeContinuous", Call::ReadRangeContinuous, ranging(&[[0x00], [0xF8], [0x04]])).answered(0, 300),
-        done("readRangeSingle", Call::ReadRangeSingle, ranging_single()).answered(0, 300),
+        done("start_back_to_back", Call::StartContinuous(0), silent()).answered(0, 0),
+        done("start_timed", Call::StartContinuous(1000), oscillator(0x0190)).answered(0, 0),
+        done("start_uncalibrated", Call::StartContinuous(1000), oscillator(0)).answered(0, 0),
+        done("start_longest", Call::StartContinuous(65537), oscillator(0xFFFF)).answered(0, 0),
+        done("stop_continuous_call", Call::StopContinuous, silent()).answered(0, 0),
+        done("read_range", Call::ReadRange, ranging(&[[0x07]])).answered(0, 300),
+        done("read_range_continuous_call", Call::ReadRangeContinuous, ranging(&[[0x00], [0xF8], [0x04]]))
+            .answered(0, 300),
+        done("read_range_single_call", Call::ReadRangeSingle, ranging_single()).answered(0, 300),
     ]
 }
 
@@ -116,29 +117,29 @@ fn settings(up: Fields) -> Vec<Trace> {
         done(name, Call::SetGpioConfig(functionality, polarity), silent().at(0x84, &[[byte]])).answered(0, 0)
     };
     vec![
-        done("setBudget", Call::SetBudget(33_000), timing(silent(), &[BENCH])).answered(0, 0),
-        done("setThresholds", Call::SetThresholds(301, 8190), silent()).answered(0, 0),
-        done("getThresholds", Call::GetThresholds, silent().at(0x0E, &[[0xF0, 0x96]]).at(0x0C, &[[0x0F, 0xFF]]))
+        done("set_budget_call", Call::SetBudget(33_000), timing(silent(), &[BENCH])).answered(0, 0),
+        done("set_thresholds_call", Call::SetThresholds(301, 8190), silent()).answered(0, 0),
+        done("get_thresholds_call", Call::GetThresholds, silent().at(0x0E, &[[0xF0, 0x96]]).at(0x0C, &[[0x0F, 0xFF]]))
             .answered(0, 300 << 16 | 8190),
-        pin("newSampleLow", NewSampleReady, ActiveLow, 0xFF),
-        pin("newSampleHigh", NewSampleReady, ActiveHigh, 0x00),
-        pin("levelLowLow", LevelLow, ActiveLow, 0x5A),
-        pin("levelLowHigh", LevelLow, ActiveHigh, 0xA5),
-        pin("levelHighLow", LevelHigh, ActiveLow, 0x00),
-        pin("levelHighHigh", LevelHigh, ActiveHigh, 0xFF),
-        pin("outOfWindowLow", OutOfWindow, ActiveLow, 0x10),
-        pin("outOfWindowHigh", OutOfWindow, ActiveHigh, 0xEF),
-        done("clearInterruptStatus", Call::ClearInterruptStatus, silent().reading_back(0xFF)).answered(0, 0),
-        done("highestRate", Call::SetSignalRateLimit(0x43FF_FEB8), silent()).answered(0, 0),
-        done("quarterRate", Call::SetSignalRateLimit(0x3E80_0000), silent()).answered(0, 0),
-        done("negativeZeroRate", Call::SetSignalRateLimit(0x8000_0000), silent()).answered(0, 0),
-        done("getBudget", Call::GetBudget, timing(silent(), &[BENCH])).answered(0, 31_326),
+        pin("new_sample_low", NewSampleReady, ActiveLow, 0xFF),
+        pin("new_sample_high", NewSampleReady, ActiveHigh, 0x00),
+        pin("level_low_low", LevelLow, ActiveLow, 0x5A),
+        pin("level_low_high", LevelLow, ActiveHigh, 0xA5),
+        pin("level_high_low", LevelHigh, ActiveLow, 0x00),
+        pin("level_high_high", LevelHigh, ActiveHigh, 0xFF),
+        pin("out_of_window_low", OutOfWindow, ActiveLow, 0x10),
+        pin("out_of_window_high", OutOfWindow, ActiveHigh, 0xEF),
+        done("clear_interrupt_status_call", Call::ClearInterruptStatus, silent().reading_back(0xFF)).answered(0, 0),
+        done("highest_rate", Call::SetSignalRateLimit(0x43FF_FEB8), silent()).answered(0, 0),
+        done("quarter_rate", Call::SetSignalRateLimit(0x3E80_0000), silent()).answered(0, 0),
+        done("negative_zero_rate", Call::SetSignalRateLimit(0x8000_0000), silent()).answered(0, 0),
+        done("get_budget_call", Call::GetBudget, timing(silent(), &[BENCH])).answered(0, 31_326),
     ]
 }
 
 fn in_use() -> Trace {
     let bench = || timing(silent(), &[BENCH]);
-    bring_up("oneDriver", calm())
+    bring_up("one_driver", calm())
         .call(Call::SetAddress(0x30), silent())
         .call(Call::SetThresholds(100, 300), silent())
         .call(
@@ -167,15 +168,15 @@ fn in_use() -> Trace {
 fn failed_bring_ups(up: Fields) -> Vec<Trace> {
     let slow_detector = calm().at(0x83, &[[0x20], [0x00]]);
     vec![
-        bring_up("identityFails", silent().failing(1, 0xC0, 1)).answered(3, 1),
-        bring_up("wrongIdentity", silent().at(0xC0, &[[0xEF]])).answered(2, 0xEF),
-        Trace::new("wrongIdentityWhileUp", Some(up))
+        bring_up("identity_fails", silent().failing(1, 0xC0, 1)).answered(3, 1),
+        bring_up("wrong_identity", silent().at(0xC0, &[[0xEF]])).answered(2, 0xEF),
+        Trace::new("wrong_identity_while_up", Some(up))
             .call(Call::WithAddress(0x30), silent().at(0xC0, &[[0x00]]))
             .answered(2, 0),
-        bring_up("detectorWaitFails", slow_detector.failing(28, 0x83, 2)).answered(3, 2),
-        bring_up("mapWriteFails", calm().failing(44, 0xB0, 255)).answered(3, 255),
-        bring_up("tuningRowFails", calm().failing(70, 0x56, 4)).answered(3, 4),
-        bring_up("statusWaitFails", calm().failing(147, 0x13, 5)).answered(3, 5),
+        bring_up("detector_wait_fails", slow_detector.failing(28, 0x83, 2)).answered(3, 2),
+        bring_up("map_write_fails", calm().failing(44, 0xB0, 255)).answered(3, 255),
+        bring_up("tuning_row_fails", calm().failing(70, 0x56, 4)).answered(3, 4),
+        bring_up("status_wait_fails", calm().failing(147, 0x13, 5)).answered(3, 5),
     ]
 }
 
@@ -184,23 +185,28 @@ fn failed_ranges(up: Fields) -> Vec<Trace> {
     let (poll, continuous, single) = (Call::ReadRange, Call::ReadRangeContinuous, Call::ReadRangeSingle);
     let ready = || ranging(&[[0x04]]);
     vec![
-        failed("pollStatusFails", poll, silent().failing(1, 0x13, 20), 20),
-        failed("pollRangeFails", poll, ready().failing(2, 0x1E, 21), 21),
-        failed("pollRangeAndFirstFail", poll, ready().failing(2, 0x1E, 21).failing(3, 0x0B, 22), 21),
-        failed("pollRangeAndSecondFail", poll, ready().failing(2, 0x1E, 21).failing(4, 0x0B, 23), 21),
-        failed("pollFirstFails", poll, ready().failing(3, 0x0B, 22), 22),
-        failed("pollSecondFails", poll, ready().failing(4, 0x0B, 23), 23),
-        Trace::new("pollNotReady", Some(up)).call(poll, silent().at(0x13, &[[0xF8]])).answered(7, 0),
-        failed("continuousStatusFails", continuous, silent().at(0x13, &[[0x00]]).failing(2, 0x13, 24), 24),
-        failed("continuousRangeFails", continuous, ready().failing(2, 0x1E, 21), 21),
-        failed("continuousRangeAndFirstFail", continuous, ready().failing(2, 0x1E, 21).failing(3, 0x0B, 22), 22),
-        failed("continuousRangeAndSecondFail", continuous, ready().failing(2, 0x1E, 21).failing(4, 0x0B, 23), 23),
-        failed("continuousSecondFails", continuous, ready().failing(4, 0x0B, 23), 23),
-        failed("singleStopByteFails", single, silent().failing(4, 0x91, 25), 25),
-        failed("singleStartFails", single, silent().at(0x00, &[[0x01]]).failing(10, 0x00, 26), 26),
-        failed("singleRangeFails", single, ranging_single().failing(15, 0x1E, 21), 21),
-        failed("singleRangeAndFirstFail", single, ranging_single().failing(15, 0x1E, 21).failing(16, 0x0B, 22), 22),
-        failed("singleRangeAndSecondFail", single, ranging_single().failing(15, 0x1E, 21).failing(17, 0x0B, 23), 23),
+        failed("poll_status_fails", poll, silent().failing(1, 0x13, 20), 20),
+        failed("poll_range_fails", poll, ready().failing(2, 0x1E, 21), 21),
+        failed("poll_range_and_first_fail", poll, ready().failing(2, 0x1E, 21).failing(3, 0x0B, 22), 21),
+        failed("poll_range_and_second_fail", poll, ready().failing(2, 0x1E, 21).failing(4, 0x0B, 23), 21),
+        failed("poll_first_fails", poll, ready().failing(3, 0x0B, 22), 22),
+        failed("poll_second_fails", poll, ready().failing(4, 0x0B, 23), 23),
+        Trace::new("poll_not_ready", Some(up)).call(poll, silent().at(0x13, &[[0xF8]])).answered(7, 0),
+        failed("continuous_status_fails", continuous, silent().at(0x13, &[[0x00]]).failing(2, 0x13, 24), 24),
+        failed("continuous_range_fails", continuous, ready().failing(2, 0x1E, 21), 21),
+        failed("continuous_range_and_first_fail", continuous, ready().failing(2, 0x1E, 21).failing(3, 0x0B, 22), 22),
+        failed("continuous_range_and_second_fail", continuous, ready().failing(2, 0x1E, 21).failing(4, 0x0B, 23), 23),
+        failed("continuous_second_fails", continuous, ready().failing(4, 0x0B, 23), 23),
+        failed("single_stop_byte_fails", single, silent().failing(4, 0x91, 25), 25),
+        failed("single_start_fails", single, silent().at(0x00, &[[0x01]]).failing(10, 0x00, 26), 26),
+        failed("single_range_fails", single, ranging_single().failing(15, 0x1E, 21), 21),
+        failed("single_range_and_first_fail", single, ranging_single().failing(15, 0x1E, 21).failing(16, 0x0B, 22), 22),
+        failed(
+            "single_range_and_second_fail",
+            single,
+            ranging_single().failing(15, 0x1E, 21).failing(17, 0x0B, 23),
+            23,
+        ),
     ]
 }
 
@@ -210,18 +216,18 @@ fn failed_calls(up: Fields) -> Vec<Trace> {
     let failed = |name, call, sensor, code| Trace::new(name, Some(up)).call(call, sensor).answered(3, code);
     let bench = || timing(silent(), &[BENCH]);
     vec![
-        failed("whoAmIFails", Call::WhoAmI, silent().failing(1, 0xC0, 1), 1),
-        failed("setAddressFails", Call::SetAddress(0x30), silent().failing(1, 0x8A, 2), 2),
-        failed("oscillatorFails", Call::StartContinuous(50), silent().failing(8, 0xF8, 3), 3),
-        failed("stopFails", Call::StopContinuous, silent().failing(6, 0xFF, 4), 4),
-        failed("setBudgetReadFails", Call::SetBudget(33_000), bench().failing(3, 0x71, 5), 5),
-        failed("setBudgetWriteFails", Call::SetBudget(33_000), bench().failing(7, 0x71, 6), 6),
-        failed("setThresholdsFails", Call::SetThresholds(301, 8190), silent().failing(2, 0x0C, 7), 7),
-        failed("getThresholdsFails", Call::GetThresholds, silent().at(0x0E, &[[0, 9]]).failing(2, 0x0C, 8), 8),
-        failed("pinFails", Call::SetGpioConfig(OutOfWindow, ActiveHigh), silent().failing(2, 0x84, 9), 9),
-        failed("clearingFails", Call::ClearInterruptStatus, silent().failing(2, 0x0B, 10), 10),
-        failed("rateFails", Call::SetSignalRateLimit(0x3E80_0000), silent().failing(1, 0x44, 11), 11),
-        failed("getBudgetFails", Call::GetBudget, bench().failing(6, 0x70, 12), 12),
+        failed("who_am_i_fails", Call::WhoAmI, silent().failing(1, 0xC0, 1), 1),
+        failed("set_address_fails", Call::SetAddress(0x30), silent().failing(1, 0x8A, 2), 2),
+        failed("oscillator_fails", Call::StartContinuous(50), silent().failing(8, 0xF8, 3), 3),
+        failed("stop_fails", Call::StopContinuous, silent().failing(6, 0xFF, 4), 4),
+        failed("set_budget_read_fails", Call::SetBudget(33_000), bench().failing(3, 0x71, 5), 5),
+        failed("set_budget_write_fails", Call::SetBudget(33_000), bench().failing(7, 0x71, 6), 6),
+        failed("set_thresholds_fails", Call::SetThresholds(301, 8190), silent().failing(2, 0x0C, 7), 7),
+        failed("get_thresholds_fails", Call::GetThresholds, silent().at(0x0E, &[[0, 9]]).failing(2, 0x0C, 8), 8),
+        failed("pin_fails", Call::SetGpioConfig(OutOfWindow, ActiveHigh), silent().failing(2, 0x84, 9), 9),
+        failed("clearing_fails", Call::ClearInterruptStatus, silent().failing(2, 0x0B, 10), 10),
+        failed("rate_fails", Call::SetSignalRateLimit(0x3E80_0000), silent().failing(1, 0x44, 11), 11),
+        failed("get_budget_fails", Call::GetBudget, bench().failing(6, 0x70, 12), 12),
     ]
 }
 
@@ -231,8 +237,8 @@ fn unset_budgets() -> Vec<Trace> {
     slow[1..5].copy_from_slice(&[0x02, 0x96, 0x03, 0xFE]);
     let nothing_on = [0x00, 0x00, 0x96, 0x01, 0xFE, 0x06, 0x25, 0x04];
     vec![
-        bring_up("shortBudget", timing(calm(), &[nothing_on])).answered(0, 0),
-        bring_up("noTimeInBringUp", timing(calm(), &[BENCH, slow])).answered(0, 0),
+        bring_up("short_budget", timing(calm(), &[nothing_on])).answered(0, 0),
+        bring_up("no_time_in_bring_up", timing(calm(), &[BENCH, slow])).answered(0, 0),
     ]
 }
 
@@ -242,8 +248,8 @@ fn broken_bring_ups() -> Vec<Trace> {
     first[6] = 0xFF;
     second[7] = 0x7F;
     vec![
-        bring_up("place5InBringUp", timing(calm(), &[first])).answered(8, 5),
-        bring_up("place8InBringUp", timing(calm(), &[BENCH, second])).answered(8, 8),
+        bring_up("place5_in_bring_up", timing(calm(), &[first])).answered(8, 5),
+        bring_up("place8_in_bring_up", timing(calm(), &[BENCH, second])).answered(8, 8),
     ]
 }
 
@@ -265,25 +271,25 @@ fn places(up: Fields) -> Vec<Trace> {
     let wide = [0xC0, 0x0F, 0xFF, 0x0F, 0xFF, 0x00, 0x00, 0x00];
     let no_time = || with(&[(1, 0x01), (3, 0x02)]);
     vec![
-        place("startPlace1", Call::StartContinuous(65538), silent().at(0xF8, &[[0xFF, 0xFF]]), 1),
-        place("getPlace2Pre", get, pre_shift(), 2),
-        place("getPlace2Final", get, final_shift(), 2),
-        place("getPlace3", get, less(), 3),
-        place("getPlace4Pre", get, pre_period(), 4),
-        place("getPlace4Final", get, final_period(), 4),
-        place("getPlace5", get, msrc(), 5),
-        place("getPlace6", get, long(), 6),
-        place("setPlace2Pre", set, pre_shift(), 2),
-        place("setPlace2Final", set, final_shift(), 2),
-        place("setPlace3", set, less(), 3),
-        place("setPlace4Pre", set, pre_period(), 4),
-        place("setPlace4Final", set, final_period(), 4),
-        place("setPlace5", set, msrc(), 5),
-        place("setPlace6", set, long(), 6),
-        place("setPlace7", Call::SetBudget(u32::MAX), with(&[]), 7),
-        place("setPlace8", set, with(&[(7, 0x7F)]), 8),
-        place("setPlace9", Call::SetBudget(503_268), timing(silent(), &[wide]), 9),
-        Trace::new("setNoTime", Some(up)).call(Call::SetBudget(20_000), no_time()).answered(1, 0),
+        place("start_place1", Call::StartContinuous(65538), silent().at(0xF8, &[[0xFF, 0xFF]]), 1),
+        place("get_place2_pre", get, pre_shift(), 2),
+        place("get_place2_final", get, final_shift(), 2),
+        place("get_place3", get, less(), 3),
+        place("get_place4_pre", get, pre_period(), 4),
+        place("get_place4_final", get, final_period(), 4),
+        place("get_place5", get, msrc(), 5),
+        place("get_place6", get, long(), 6),
+        place("set_place2_pre", set, pre_shift(), 2),
+        place("set_place2_final", set, final_shift(), 2),
+        place("set_place3", set, less(), 3),
+        place("set_place4_pre", set, pre_period(), 4),
+        place("set_place4_final", set, final_period(), 4),
+        place("set_place5", set, msrc(), 5),
+        place("set_place6", set, long(), 6),
+        place("set_place7", Call::SetBudget(u32::MAX), with(&[]), 7),
+        place("set_place8", set, with(&[(7, 0x7F)]), 8),
+        place("set_place9", Call::SetBudget(503_268), timing(silent(), &[wide]), 9),
+        Trace::new("set_no_time", Some(up)).call(Call::SetBudget(20_000), no_time()).answered(1, 0),
     ]
 }
 
@@ -294,15 +300,15 @@ fn at_once(up: Fields) -> Vec<Trace> {
         trace
     };
     vec![
-        answered("addressBelow", Call::SetAddress(0x07), 5, 0x07),
-        answered("addressAbove", Call::SetAddress(0x78), 5, 0x78),
-        answered("highAbove", Call::SetThresholds(0, 8191), 6, 0),
-        answered("bothAbove", Call::SetThresholds(8191, 8191), 6, 0),
-        answered("lowOverHigh", Call::SetThresholds(301, 300), 6, 0),
-        answered("budgetBelow", Call::SetBudget(19_999), 1, 0),
-        answered("rateNan", Call::SetSignalRateLimit(0x7FC0_0000), 1, 0),
-        answered("rateNegative", Call::SetSignalRateLimit(0x8000_0001), 1, 0),
-        answered("rateAbove", Call::SetSignalRateLimit(0x43FF_FEB9), 1, 0),
-        answered("rateInfinite", Call::SetSignalRateLimit(0x7F80_0000), 1, 0),
+        answered("address_below", Call::SetAddress(0x07), 5, 0x07),
+        answered("address_above", Call::SetAddress(0x78), 5, 0x78),
+        answered("high_above", Call::SetThresholds(0, 8191), 6, 0),
+        answered("both_above", Call::SetThresholds(8191, 8191), 6, 0),
+        answered("low_over_high", Call::SetThresholds(301, 300), 6, 0),
+        answered("budget_below", Call::SetBudget(19_999), 1, 0),
+        answered("rate_nan", Call::SetSignalRateLimit(0x7FC0_0000), 1, 0),
+        answered("rate_negative", Call::SetSignalRateLimit(0x8000_0001), 1, 0),
+        answered("rate_above", Call::SetSignalRateLimit(0x43FF_FEB9), 1, 0),
+        answered("rate_infinite", Call::SetSignalRateLimit(0x7F80_0000), 1, 0),
     ]
 }

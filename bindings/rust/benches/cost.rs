@@ -15,7 +15,7 @@ const ROUNDS: u32 = 60;
 const TRANSFERS: usize = 100_000;
 
 const METHOD: &str = "\
-CPU time of one thread, best of 60 rounds in turn. The library is as `rt staticlib` builds it, the Rust driver as
+CPU time of one thread, best of 60 rounds in turn. The library is as `rt lib` builds it, the Rust driver as
 cargo's release profile does: at level 3 and without overflow checks. Replies are prepared; the bus is one function
 that copies them and is not inlined, the same for all, and is counted in.";
 

@@ -1,4 +1,4 @@
-//! A safe wrapper of the proved VL53L0X driver, the static library that `rt staticlib vl53l0x` makes.
+//! A safe wrapper of the proved VL53L0X driver, the static library that `rt lib` makes of crates/vl53l0x.
 //!
 //! The driver makes no transfer itself. A [`Session`] is begun with a [`Call`]; it answers at once or names a transfer,
 //! and the bus's reply to that leads to the next transfer or to the answer. [`drive`] does this on a [`Bus`] until the

@@ -1,5 +1,6 @@
 // The lines of a block of records, as one text.
 #![tactic(auto)]
+
 ghost use Rattle.std.specs.Prelude.{◌+◌, ◌*◌, ◌≤◌, length};
 ghost use Rattle.lines.specs.Put.{PutLine};
 ghost use Rattle.blocks.specs.Blocks.{line_of, OneMore, Printed, Prints};

@@ -1,6 +1,7 @@
 // What the six budget replies amount to: the measurement timing budget of call 15, and the final
 // range word that call 9 writes.
 #![tactic(auto)]
+
 mod answers;
 mod sums;
 

@@ -2,7 +2,7 @@
 use Rattle.std.specs.Prelude.{List, [], ◌∷◌, ◌++◌, map, ℕ, get_or}
 use Rattle.session.specs.declared.Instruction.{Instruction}
 use Rattle.session.specs.Instructions.{mask_slot, stop_slot, second_slot}
-use Rattle.session.specs.Calls.{rows, clearing, budget_reads, budget_steps, gpio_steps, calibration, preparation, tuning, spad_steps}
+use Rattle.session.specs.Calls.{rows, clearing, budget_reads, budget_steps, gpio_steps, calibration, tuning, spad_steps}
 
 -- lib.rs: perform_single_ref_calibration, up to the end of its clearing
 abbrev pub calibration_start : ℕ → List Instruction

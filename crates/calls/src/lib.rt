@@ -1,6 +1,7 @@
 // The instructions of every call, in the order of lib.rs, as constant tables: one for each call or section of one.
 // A sequence that several calls share stands once.
 #![tactic(auto)]
+
 mod bring_up;
 mod sections;
 mod tables;

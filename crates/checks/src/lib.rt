@@ -1,5 +1,6 @@
 // Answers 15, 13 and 12: is a session well formed, are arguments in range, does a reply have stray bytes? And small tests that others need too.
 #![tactic(auto)]
+
 ghost use Rattle.std.specs.Prelude.{◌≡◌, not, ◌&&◌, ◌||◌, ◌+◌, leb, drop};
 ghost use Rattle.session.specs.Bus.{clean_from};
 ghost use Rattle.session.specs.Calls.{ceiling_of, arguments_ok};

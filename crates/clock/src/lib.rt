@@ -1,6 +1,7 @@
 // The source's clock arithmetic. Each clock unit is a type of its own, so that a count of one
 // clock cannot be handed over as another. Where the Rust panics, the answer is the place.
 #![tactic(auto)]
+
 ghost use Rattle.std.specs.Prelude.{◌≡◌, ◌+◌, ◌%◌, ◌^◌};
 ghost use Rattle.clock.specs.Clock.{shifted, decoded_timeout, halved, encoded_timeout};
 ghost use Rattle.clock.specs.Clock.{decoded_vcsel_period, encoded_vcsel_period, macro_period};

@@ -1,6 +1,6 @@
 -- What a call and a reply give, by their tests.
 use mathlib.Core.Path.{◌≡◌, refl, sym, ◌∙◌, subst}
-use mathlib.Core.Bool.{true, false, not}
+use mathlib.Core.Bool.{true, false}
 use mathlib.Core.List.{List}
 use Prim.Native.Nat.{ℕ, zero, suc}
 use native.Mathlib.Omega.{arith}
@@ -13,7 +13,7 @@ use Rattle.session.specs.Instructions.{Context, Op, write, read, wait, range, se
 use Rattle.session.specs.Steps.{op_of}
 use Rattle.session.specs.Calls.{arguments_ok}
 use Rattle.session.proofs.Facts.{both}
-use Rattle.session.specs.Machine.{refused, broken, context_of, decide, stray, waits_now, malformed, ill_formed, begun, not_up, reply_def, begin_def, other_def}
+use Rattle.session.specs.Machine.{refused, broken, context_of, stray, waits_now, malformed, ill_formed, begun, not_up, reply_def, begin_def, other_def}
 use Rattle.calls.specs.Calls.{call_of, program_for, instruction_at}
 use Rattle.calls.proofs.Programs.{program_named}
 use Rattle.steps.specs.Steps.{shape_of, settled}

@@ -1,5 +1,6 @@
 // A session by value: a call is begun and yields one transfer, and each reply of the bus yields the next transfer or the answer.
 #![tactic(auto)]
+
 mod begins;
 mod replies;
 

@@ -1,5 +1,6 @@
 // The two ends of each call.
 #![tactic(auto)]
+
 ghost use Rattle.std.specs.Prelude.{◌≡◌, ◌≤◌};
 ghost use Rattle.calls.specs.Calls.{program_for, most_for};
 ghost use Rattle.session.specs.Bus.{with_driver_address, with_driver_budget};

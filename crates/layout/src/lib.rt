@@ -1,5 +1,6 @@
 // A session and an outcome as bytes of a fixed layout, for callers in other languages.
 #![tactic(auto)]
+
 mod outcomes;
 mod parts;
 mod sessions;

@@ -1,6 +1,7 @@
 // The lines of text that outcomes and the driver's fields are printed as. A line goes into a lent text from a place on, and the place after it is
 // returned. Where the text has less than 32 bytes from that place on, nothing is put: no line has more.
 #![tactic(auto)]
+
 mod digits;
 
 ghost use Rattle.std.specs.Prelude.{◌≡◌, ◌+◌, ◌≤◌, length};

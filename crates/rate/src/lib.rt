@@ -1,5 +1,6 @@
 // The number of call 14: the signal rate limit, an `f32` in MCPS given by its bits, as the register's Q9.7 word.
 #![tactic(auto)]
+
 ghost use Rattle.std.specs.Prelude.{◌≡◌};
 ghost use Rattle.std.specs.Float.{binary32};
 ghost use Rattle.std.specs.Float.Ieee.{of_bits, to_unsigned};

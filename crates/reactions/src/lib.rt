@@ -1,5 +1,6 @@
 // Where a record takes a session, in four steps: what is kept of a reply, which way the call goes, what that comes to, and the outcome.
 #![tactic(auto)]
+
 mod kept;
 mod outcomes;
 mod plans;

@@ -1,8 +1,8 @@
 -- The events of a list, one after the other from a place on.
 use mathlib.Core.Path.{◌≡◌, refl, sym, ap, ◌∙◌}
-use mathlib.Core.Bool.{Bool, true, false, cond}
+use mathlib.Core.Bool.{cond}
 use mathlib.Core.Logic.{⊎_elim}
-use mathlib.Core.List.{List, [], ◌∷◌, ◌++◌, map}
+use mathlib.Core.List.{List, [], ◌∷◌}
 use Prim.Native.Nat.{ℕ, zero, suc, ◌+◌, ◌-◌, ◌*◌, ◌/◌, ◌%◌, ◌≤◌, ◌<◌}
 use native.Mathlib.Nat.{add-zero}
 use native.Mathlib.Omega.{arith}
@@ -11,7 +11,7 @@ use lib.ListN.{length, get_or, drop, length-drop}
 use lib.Seq.{get_or-drop}
 use borrow.Author.Tests.{le-leb, lt-leb, ne_eqb}
 use Rattle.spad.proofs.Laws.{lt_or_ge}
-use Rattle.session.specs.Records.{records_of, is_whole}
+use Rattle.session.specs.Records.{records_of}
 use Rattle.records.specs.Records.{record_in, record_at}
 use Rattle.records.proofs.Turns.{records_first}
 use Rattle.reader.specs.declared.Event.{Event}

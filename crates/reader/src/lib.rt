@@ -1,5 +1,6 @@
 // A reader over lent records: a struct that holds them and a place, and gives the next event.
 #![tactic(auto)]
+
 mod events;
 
 ghost use Rattle.std.specs.Prelude.{◌≡◌};

@@ -1,5 +1,6 @@
 // Records of eight bytes, and the run over a list of them.
 #![tactic(auto)]
+
 mod one;
 mod runs;
 

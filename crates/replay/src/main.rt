@@ -13,7 +13,7 @@ mod thresholds;
 
 use rows::{Function, rows};
 use std::io;
-use std::io::{BufReader, BufWriter, ErrorKind, Read, Write};
+use std::io::{ErrorKind, Read, Write};
 
 fn line(out: &mut impl Write, r: [u8; 13]) -> io::Result<()> {
     match r[0] {
@@ -52,8 +52,8 @@ fn replay_records(reader: &mut impl Read, out: &mut impl Write) -> io::Result<()
 }
 
 fn main(rt: HostRuntime) -> io::Result<()> {
-    let mut reader = BufReader::new(rt.alloc(), rt.reader())?;
-    let mut out = BufWriter::new(rt.alloc(), io::writer(&rt))?;
+    let mut reader = rt.reader();
+    let mut out = io::writer(&rt);
     rows(&mut out, Function::DecodeTimeout, 65536)?;
     rows(&mut out, Function::EncodeTimeout, 65536)?;
     rows(&mut out, Function::DecodeVcselPeriod, 256)?;
@@ -61,6 +61,5 @@ fn main(rt: HostRuntime) -> io::Result<()> {
     rows(&mut out, Function::CalcMacroPeriod, 256)?;
     rows(&mut out, Function::SetThresholds, 65536)?;
     rows(&mut out, Function::GetThresholds, 65536)?;
-    replay_records(&mut reader, &mut out)?;
-    out.flush()
+    replay_records(&mut reader, &mut out)
 }

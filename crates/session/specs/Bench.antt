@@ -2,7 +2,7 @@
 -- and what a session that no run leaves makes of a reply.
 use Rattle.std.specs.Prelude.{◌≡◌, true, false, List, [], ◌∷◌, map, ◌++◌, ℕ, ◌+◌, ◌*◌, replicate}
 use Rattle.std.proofs.lemmas.List.Edits.{sets}
-use Rattle.session.specs.Bus.{Driver, Answer, byte, transfer_of, number_of, values_of}
+use Rattle.session.specs.Bus.{Driver, Answer, transfer_of, number_of, values_of}
 use Rattle.session.specs.Instructions.{timing_slot}
 use Rattle.session.specs.Machine.{Session, Outcome, sent, answered, broken, zeros, resting, fresh_session, reply_def}
 use Rattle.session.specs.Records.{call, reply, other, call_bytes, reply_bytes, records_of, step_def}

@@ -1,6 +1,7 @@
 // lib.rs: the fields of VL53L0x that a call can change. What is known of a sensor that is up: its address, its stop byte and its stored budget in
 // microseconds. All zero while it is not up.
 #![tactic(auto)]
+
 #[derive(Clone, Copy)]
 pub struct Driver {
     pub up: bool,

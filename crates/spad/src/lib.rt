@@ -1,6 +1,7 @@
 // The detector (SPAD) map: detector i is bit i % 8 of byte i / 8, and a set bit is a good detector.
 // lib.rs: init_hardware, the loop over 48 bits. Here the walk goes byte by byte, and carries how many bits to skip and how many good ones are wanted.
 #![tactic(auto)]
+
 ghost use Rattle.std.specs.Prelude.{◌≡◌, ◌-◌, ◌≤◌};
 ghost use Rattle.spad.specs.Map.{bits_of, byte_of, keep, first_spad, select_spads};
 ghost use Rattle.spad.specs.Walk.{BitWalked, ByteWalked};

@@ -1,5 +1,6 @@
 // What an instruction is to a session: its shape, what is kept of its reply, and values of what is kept.
 #![tactic(auto)]
+
 mod kept;
 mod shapes;
 mod values;

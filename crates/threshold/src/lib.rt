@@ -1,5 +1,6 @@
 // The interrupt thresholds of calls 10 and 11. lib.rs: set_interrupt_thresholds_mm, get_interrupt_thresholds_mm.
 #![tactic(auto)]
+
 ghost use Rattle.std.specs.Prelude.{◌≡◌};
 ghost use Rattle.threshold.specs.Threshold.{encode_threshold, decode_threshold, check_thresholds};
 

@@ -1,6 +1,7 @@
 // The six budget replies: which steps of the sequence are on, the timeouts, and the places where
 // the Rust panics on them.
 #![tactic(auto)]
+
 mod places;
 mod registers;
 mod timeouts;

@@ -1,5 +1,6 @@
 // The transfer of each instruction.
 #![tactic(auto)]
+
 mod written;
 
 ghost use Rattle.std.specs.Prelude.{◌≡◌, cond, [], ◌∷◌, ◌≤◌, eqb, get_or};

@@ -1,5 +1,6 @@
 // What a good reply to each instruction decides.
 #![tactic(auto)]
+
 ghost use Rattle.std.specs.Prelude.{◌≡◌};
 ghost use Rattle.session.specs.Machine.{context_of};
 ghost use Rattle.session.specs.Steps.{op_of, by_place, by_word, no_time};

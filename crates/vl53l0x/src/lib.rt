@@ -1,5 +1,6 @@
 // The driver for callers in other languages: a session, a record and an outcome are lent bytes (crate layout), and nothing is kept here.
 #![tactic(auto)]
+
 ghost use Rattle.std.specs.Prelude.{◌≡◌, true, length};
 ghost use Rattle.session.specs.Machine.{fresh_session};
 ghost use Rattle.layout.specs.Layout.{session_size, outcome_size, placed, placed_number, session_bytes, is_session};

@@ -1,7 +1,6 @@
 -- `blocks::print` meets its contract.
 use mathlib.Core.Path.{refl}
 use native.Mathlib.Omega.{arith}
-use borrow.Author.Rules.{rules}
 use Rattle.blocks.proofs.Texts.{printed_fits}
 use Rattle.blocks.proofs.print.Goals as goal
 

@@ -1,7 +1,6 @@
 -- `blocks::print_record` meets its contract.
 use mathlib.Core.Path.{ap, ◌∙◌}
 use native.Mathlib.Omega.{arith}
-use borrow.Author.Rules.{rules}
 use Rattle.reactions.specs.declared.Outcome.{Outcome}
 use Rattle.blocks.proofs.Texts.{kept_session}
 use Rattle.blocks.proofs.print_record.Goals as goal

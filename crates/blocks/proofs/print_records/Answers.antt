@@ -1,9 +1,7 @@
 -- `blocks::print_records` meets its contract: what is printed so far, and the lines of what is left, are the lines of the whole.
-use Prim.Native.Nat.{◌-◌}
 use native.Mathlib.Omega.{arith}
-use lib.ListN.{length}
 use borrow.Author.Rules.{rules}
-use Rattle.blocks.proofs.Texts.{Going, going_from, eight_left, line_fits, goes_on, going_ends}
+use Rattle.blocks.proofs.Texts.{going_from, eight_left, line_fits, goes_on, going_ends}
 use Rattle.blocks.proofs.print_records.Goals as goal
 
 pub loop-i-init : goal.loop-i-init

@@ -1,8 +1,6 @@
 use Prim.Native.Nat.{◌-◌}
-use native.Mathlib.Omega.{arith}
 use lib.ListN.{length}
-use borrow.Author.Rules.{rules}
-use Rattle.blocks.proofs.Texts.{Going, going_from, eight_left, line_fits, goes_on, going_ends}
+use Rattle.blocks.proofs.Texts.{Going}
 use Rattle.blocks.proofs.print_records.Given as goal
 
 abbrev pub invariant-loop-i : goal.invariant-loop-i

@@ -1,5 +1,4 @@
 -- `calls::instruction_at` meets its contract.
-use borrow.Author.Rules.{rules}
 use Rattle.calls.proofs.Programs.{at_code}
 use Rattle.calls.proofs.instruction_at.Goals as goal
 

@@ -1,5 +1,4 @@
 -- `calls::step_of` meets its contract.
-use borrow.Author.Rules.{rules}
 use Rattle.calls.specs.Calls.{program_for, step_of}
 use Rattle.calls.proofs.Programs.{cases}
 use Rattle.calls.proofs.step_of.Goals as goal

@@ -1,5 +1,4 @@
 -- `calls::steps_in` meets its contract.
-use borrow.Author.Rules.{rules}
 use mathlib.Core.Path.{◌∙◌}
 use native.Mathlib.Omega.{arith}
 use Rattle.session.proofs.Facts.{past}

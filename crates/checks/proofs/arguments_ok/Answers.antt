@@ -1,5 +1,4 @@
 -- `checks::arguments_ok` meets its contract.
-use borrow.Author.Rules.{rules}
 use Rattle.session.specs.Calls.{arguments_ok}
 use Rattle.checks.specs.Sound.{greatest_a, greatest_b}
 use Rattle.checks.proofs.arguments_ok.Goals as goal

@@ -1,5 +1,4 @@
 -- `checks::clean_from` meets its contract.
-use borrow.Author.Rules.{rules}
 use Rattle.checks.proofs.Places.{clean_failure}
 use Rattle.checks.proofs.clean_from.Goals as goal
 

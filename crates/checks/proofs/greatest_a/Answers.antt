@@ -3,7 +3,6 @@ use mathlib.Core.List.{map}
 use mathlib.Core.Path.{◌∙◌}
 use Prim.Native.Nat.{ℕ}
 use native.Mathlib.Omega.{arith}
-use borrow.Author.Rules.{rules}
 use Rattle.session.specs.Calls.{greatest}
 use Rattle.calls.proofs.Programs.{get_d_map}
 use Rattle.session.proofs.Facts.{past}

@@ -1,5 +1,4 @@
 -- `checks::idle_at` meets its contract.
-use borrow.Author.Rules.{rules}
 use Rattle.checks.specs.Sound.{idle_at_step}
 use Rattle.checks.proofs.idle_at.Goals as goal
 

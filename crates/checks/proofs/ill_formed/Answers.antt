@@ -1,6 +1,5 @@
 -- `checks::ill_formed` meets its contract.
 use mathlib.Core.Path.{◌∙◌}
-use borrow.Author.Rules.{rules}
 use Rattle.checks.proofs.Places.{ill_is}
 use Rattle.checks.proofs.ill_formed.Goals as goal
 

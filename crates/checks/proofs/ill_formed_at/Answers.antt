@@ -1,6 +1,5 @@
 -- `checks::ill_formed_at` meets its contract.
 use mathlib.Core.Path.{◌∙◌, refl, sym}
-use borrow.Author.Rules.{rules}
 use borrow.Author.Tests.{ne_eqb}
 use Rattle.checks.proofs.ill_formed_at.Goals as goal
 

@@ -1,5 +1,4 @@
 -- `checks::malformed_at` meets its contract.
-use borrow.Author.Rules.{rules}
 use Rattle.checks.specs.Sound.{malformed_at}
 use Rattle.checks.proofs.malformed_at.Goals as goal
 

@@ -1,5 +1,4 @@
 -- `checks::stray` meets its contract.
-use borrow.Author.Rules.{rules}
 use Rattle.checks.specs.Sound.{stray_in}
 use Rattle.checks.proofs.stray.Goals as goal
 

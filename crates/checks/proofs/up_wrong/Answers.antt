@@ -1,5 +1,4 @@
 -- `checks::up_wrong` meets its contract.
-use borrow.Author.Rules.{rules}
 use Rattle.clock.proofs.Branches.{branches}
 use Rattle.checks.proofs.up_wrong.Goals as goal
 

@@ -1,5 +1,5 @@
 -- The proof of the cycle of calls {halve}: the measure is the number itself, which falls as it is halved.
-use Rattle.std.proofs.Common.{ℕ, ◌+◌, ◌/◌, ◌<◌, ◌≤◌, sym, ap, ◌∙◌, subst, arith, rules}
+use Rattle.std.proofs.Common.{ℕ, ◌+◌, ◌/◌, ◌<◌, ◌≤◌, sym, ap, ◌∙◌, subst, arith}
 use Rattle.clock.proofs.Halving.{halved_small, halved_more, halved_le}
 use Rattle.clock.proofs.+halve.Goals as goal
 

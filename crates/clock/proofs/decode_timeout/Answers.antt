@@ -1,5 +1,5 @@
 -- `clock::decode_timeout` meets its contract. A byte shifted in 16 bits is even or small, so it leaves room for the 1.
-use Rattle.std.proofs.Common.{ℕ, ◌+◌, ◌/◌, ◌%◌, ◌^◌, ◌<◌, ◌≤◌, sym, subst, arith, rules, le-leb}
+use Rattle.std.proofs.Common.{ℕ, ◌+◌, ◌/◌, ◌%◌, ◌^◌, ◌<◌, ◌≤◌, sym, subst, arith, le-leb}
 use borrow.Author.Tests.{lt-leb}
 use Rattle.clock.specs.Clock.{decoded_timeout}
 use Rattle.clock.proofs.Doubling.{room}

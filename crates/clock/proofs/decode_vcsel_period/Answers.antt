@@ -1,5 +1,5 @@
 -- `clock::decode_vcsel_period` meets its contract: a byte added to itself is the byte shifted by 1 in 8 bits.
-use Rattle.std.proofs.Common.{◌≡◌, ℕ, ◌+◌, ◌%◌, ◌^◌, ◌<◌, arith, rules, eq-eqb, ne_eqb}
+use Rattle.std.proofs.Common.{◌≡◌, ℕ, ◌+◌, ◌%◌, ◌^◌, ◌<◌, arith, eq-eqb, ne_eqb}
 use Rattle.clock.specs.Clock.{shifted, doubled_in, decoded_vcsel_period}
 use Rattle.clock.proofs.Doubling.{doubling_shifts}
 use Rattle.clock.proofs.decode_vcsel_period.Goals as goal

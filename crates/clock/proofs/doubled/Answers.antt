@@ -1,5 +1,5 @@
 -- `clock::doubled` meets its contract. After i turns v is x doubled i times in 16 bits, which is the shift; the measure is the turns that are left.
-use Rattle.std.proofs.Common.{◌≡◌, ℕ, ◌+◌, ◌-◌, ◌%◌, ◌^◌, ◌≤◌, refl, ap, ◌∙◌, add-one, arith, rules}
+use Rattle.std.proofs.Common.{◌≡◌, ℕ, ◌+◌, ◌%◌, ◌^◌, refl, ap, ◌∙◌, add-one, arith}
 use Rattle.clock.specs.Clock.{doubled_in}
 use Rattle.clock.proofs.Doubling.{doubling_shifts}
 use Rattle.clock.proofs.doubled.Goals as goal

@@ -1,6 +1,5 @@
-use Rattle.std.proofs.Common.{◌≡◌, ℕ, ◌+◌, ◌-◌, ◌%◌, ◌^◌, ◌≤◌, refl, ap, ◌∙◌, add-one, arith, rules}
+use Rattle.std.proofs.Common.{◌≡◌, ◌-◌, ◌≤◌}
 use Rattle.clock.specs.Clock.{doubled_in}
-use Rattle.clock.proofs.Doubling.{doubling_shifts}
 use Rattle.clock.proofs.doubled.Given as goal
 
 abbrev pub invariant-loop-i : goal.invariant-loop-i

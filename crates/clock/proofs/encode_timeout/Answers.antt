@@ -1,5 +1,5 @@
 -- `clock::encode_timeout` meets its contract.
-use Rattle.std.proofs.Common.{rules, eq-eqb, ne_eqb}
+use Rattle.std.proofs.Common.{eq-eqb, ne_eqb}
 use Rattle.clock.specs.Clock.{encoded_timeout}
 use Rattle.clock.proofs.encode_timeout.Goals as goal
 

@@ -1,5 +1,5 @@
 -- `clock::encode_vcsel_period` meets its contract: each branch is a case of the definition.
-use Rattle.std.proofs.Common.{◌<◌, ◌≤◌, arith, rules, le-leb}
+use Rattle.std.proofs.Common.{◌<◌, ◌≤◌, arith, le-leb}
 use borrow.Author.Tests.{lt-leb}
 use Rattle.clock.specs.Clock.{encoded_vcsel_period}
 use Rattle.clock.proofs.encode_vcsel_period.Goals as goal

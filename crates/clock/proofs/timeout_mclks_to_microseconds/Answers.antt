@@ -1,5 +1,5 @@
 -- `clock::timeout_mclks_to_microseconds` meets its contract: the sum fits 64 bits, and each branch is a case of the definition over the macro period.
-use Rattle.std.proofs.Common.{ℕ, ◌≡◌, ◌+◌, ◌*◌, ◌/◌, ◌^◌, ◌<◌, ◌≤◌, ap, ◌∙◌, lt_of_lt_of_le, arith, lit≤, rules, le-ltb, lt-ltb}
+use Rattle.std.proofs.Common.{ℕ, ◌≡◌, ◌+◌, ◌*◌, ◌/◌, ◌^◌, ◌<◌, ◌≤◌, ap, ◌∙◌, lt_of_lt_of_le, arith, lit≤, le-ltb, lt-ltb}
 use Rattle.clock.specs.Clock.{microseconds_of}
 use Rattle.clock.specs.declared.Mclks.{Mclks}
 use Rattle.clock.specs.declared.Nanoseconds.{Nanoseconds}

@@ -1,5 +1,5 @@
 -- `clock::timeout_microseconds_to_mclks` meets its contract: each branch is a case of the definition over the macro period.
-use Rattle.std.proofs.Common.{◌≡◌, ◌+◌, ◌*◌, ◌/◌, ◌^◌, ◌<◌, ◌≤◌, ap, ◌∙◌, lt_of_le_of_lt, div-le_self, arith, rules, le-ltb, lt-ltb, eq-eqb, ne_eqb}
+use Rattle.std.proofs.Common.{◌≡◌, ◌+◌, ◌*◌, ◌/◌, ◌^◌, ◌<◌, ◌≤◌, ap, ◌∙◌, lt_of_le_of_lt, div-le_self, arith, le-ltb, lt-ltb, eq-eqb, ne_eqb}
 use Rattle.clock.specs.Clock.{mclks_of}
 use Rattle.clock.specs.declared.Microseconds.{Microseconds}
 use Rattle.clock.specs.declared.Nanoseconds.{Nanoseconds}

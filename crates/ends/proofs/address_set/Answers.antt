@@ -1,5 +1,4 @@
 -- `ends::address_set` meets its contract.
-use borrow.Author.Rules.{rules}
 use mathlib.Core.Path.{ap}
 use Rattle.session.specs.declared.Driver.{Driver}
 use Rattle.ends.specs.declared.End.{End}

@@ -1,5 +1,4 @@
 -- `ends::range_result` meets its contract.
-use borrow.Author.Rules.{rules}
 use native.Mathlib.Omega.{arith}
 use mathlib.Core.Path.{◌∙◌, ap, sym}
 use Rattle.ends.specs.Ends.{end_of}

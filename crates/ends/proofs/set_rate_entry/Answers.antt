@@ -1,5 +1,4 @@
 -- `ends::set_rate_entry` meets its contract.
-use borrow.Author.Rules.{rules}
 use Rattle.steps.specs.Steps.{settled}
 use Rattle.calls.specs.Calls.{program_for}
 use Rattle.session.specs.Calls.{by_rate}

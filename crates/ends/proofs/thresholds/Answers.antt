@@ -1,5 +1,4 @@
 -- `ends::thresholds` meets its contract.
-use borrow.Author.Rules.{rules}
 use Rattle.ends.specs.Ends.{thresholds_of}
 use mathlib.Core.Path.{refl}
 use Rattle.ends.proofs.thresholds.Goals as goal

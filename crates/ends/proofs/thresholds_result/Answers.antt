@@ -1,5 +1,4 @@
 -- `ends::thresholds_result` meets its contract.
-use borrow.Author.Rules.{rules}
 use mathlib.Core.Path.{◌∙◌, refl}
 use Rattle.calls.specs.Calls.{program_for}
 use Rattle.ends.specs.Ends.{thresholds_of}

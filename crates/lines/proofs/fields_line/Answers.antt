@@ -1,6 +1,5 @@
 -- `lines::fields_line` meets its contract.
 use mathlib.Core.Path.{sym, ◌∙◌}
-use borrow.Author.Rules.{rules}
 use borrow.Author.Tests.{leb-true}
 use Rattle.lines.proofs.Putting.{roomy, full}
 use Rattle.lines.proofs.fields_line.Goals as goal

@@ -1,6 +1,5 @@
 -- `lines::put_answer` meets its contract.
 use native.Mathlib.Omega.{arith}
-use borrow.Author.Rules.{rules}
 use Rattle.lines.specs.Lines.{answer_line}
 use Rattle.lines.proofs.Putting.{then}
 use Rattle.lines.proofs.put_answer.Goals as goal

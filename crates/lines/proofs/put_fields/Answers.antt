@@ -1,6 +1,5 @@
 -- `lines::put_fields` meets its contract.
 use native.Mathlib.Omega.{arith}
-use borrow.Author.Rules.{rules}
 use Rattle.lines.specs.Lines.{fields_line}
 use Rattle.lines.proofs.Putting.{then}
 use Rattle.lines.proofs.put_fields.Goals as goal

@@ -1,5 +1,4 @@
 -- `lines::put_outcome` meets its contract.
-use borrow.Author.Rules.{rules}
 use Rattle.lines.specs.Lines.{given_line}
 use Rattle.lines.proofs.put_outcome.Goals as goal
 

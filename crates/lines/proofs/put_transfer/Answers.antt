@@ -1,6 +1,5 @@
 -- `lines::put_transfer` meets its contract.
 use native.Mathlib.Omega.{arith}
-use borrow.Author.Rules.{rules}
 use Rattle.lines.specs.Lines.{transfer_line}
 use Rattle.lines.proofs.Putting.{then}
 use Rattle.lines.proofs.put_transfer.Goals as goal

@@ -1,11 +1,8 @@
 -- `rate::signal_rate_limit_word` meets its contract: each branch is a law of `proofs/Word.antt`.
-use mathlib.Core.Path.{◌≡◌, sym, ap, ◌∙◌, subst}
-use mathlib.Core.Bool.{true}
+use mathlib.Core.Path.{sym, ap, ◌∙◌, subst}
 use native.Mathlib.Omega.{arith}
-use borrow.Author.Rules.{rules}
 use lib.Dec.{T}
 use lib.Ieee.{Float, binary32, of_bits, le}
-use Rattle.rate.specs.Rate.{in_range}
 use Rattle.rate.specs.declared.RateWord.TheVariants.{Word}
 use Rattle.rate.proofs.Word.{no_nan, refused_nan, refused_below, refused_above, ranged, word_by_bits}
 use Rattle.rate.proofs.Product.{product_number, in_range_finite}

@@ -2,7 +2,6 @@
 use mathlib.Core.Path.{sym, subst}
 use Prim.Native.Nat.{ℕ, ◌^◌, ◌<◌}
 use native.Mathlib.Omega.{arith}
-use borrow.Author.Rules.{rules}
 use lib.Ieee.{binary32, of_bits}
 use lib.Ieee.Casts.{to_unsigned-lt}
 use Rattle.rate.proofs.Whole.{nan_or_negative, below_one, from_65536, digits}

@@ -1,6 +1,5 @@
 -- `reactions::go` meets its contract.
 use native.Mathlib.Omega.{arith}
-use borrow.Author.Rules.{rules}
 use Rattle.reactions.specs.Reactions.{reached}
 use Rattle.reactions.proofs.Meets.{plan_fits, plan_sound}
 use Rattle.reactions.proofs.go.Goals as goal

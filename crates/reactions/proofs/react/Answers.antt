@@ -1,6 +1,5 @@
 -- `reactions::react` meets its contract.
 use mathlib.Core.Path.{refl}
-use borrow.Author.Rules.{rules}
 use Rattle.session.specs.Steps.{op_of}
 use Rattle.reactions.specs.Reactions.{reached}
 use Rattle.reactions.proofs.Meets.{reacts, same_kept, sound_same}

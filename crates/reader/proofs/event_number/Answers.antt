@@ -7,7 +7,6 @@ use lib.ListN.{length}
 use Rattle.records.proofs.Turns.{tail}
 use Rattle.reader.specs.Events.{event_at}
 use Rattle.reader.proofs.InOrder.{numbered, numbered_last}
-use borrow.Author.Rules.{rules}
 use Rattle.reader.proofs.event_number.Goals as goal
 
 pub returns-then-n-whole : goal.returns-then-n-whole

@@ -2,7 +2,6 @@
 use mathlib.Core.Path.{◌≡◌, sym, ap, ◌∙◌, subst}
 use Prim.Native.Nat.{ℕ, ◌+◌, ◌-◌, ◌*◌, ◌/◌, ◌<◌, ◌≤◌}
 use native.Mathlib.Omega.{arith}
-use borrow.Author.Rules.{rules}
 use Rattle.spad.specs.Map.{bits_of, byte_of, keep}
 use Rattle.spad.proofs.Keep.{step, kept_half}
 use Rattle.spad.proofs.+keep_bits.Goals as goal

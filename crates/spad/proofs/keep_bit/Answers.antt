@@ -1,7 +1,6 @@
 -- `spad::keep_bit` meets its contract: each branch is one of the laws of one bit.
 use Prim.Native.Nat.{◌%◌}
 use native.Mathlib.Omega.{arith}
-use borrow.Author.Rules.{rules}
 use lib.Dec.{eqb}
 use Rattle.spad.proofs.Keep.{keep_skip, keep_none, keep_one}
 use Rattle.spad.proofs.keep_bit.Goals as goal

@@ -1,6 +1,5 @@
 -- `spad::select_spads` meets its contract: the six bytes are walked one after another, and their ones are summed.
 use native.Mathlib.Omega.{arith}
-use borrow.Author.Rules.{rules}
 use Rattle.spad.proofs.Keep.{done, next, selection}
 use Rattle.spad.proofs.select_spads.Goals as goal
 

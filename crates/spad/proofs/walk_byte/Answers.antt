@@ -2,7 +2,6 @@
 use mathlib.Core.Path.{◌≡◌, refl}
 use Prim.Native.Nat.{ℕ, ◌≤◌}
 use native.Mathlib.Omega.{arith}
-use borrow.Author.Rules.{rules}
 use lib.Count.{ones, ones-le}
 use Rattle.spad.specs.Map.{bits_of, byte_of, keep}
 use Rattle.spad.proofs.Keep.{ones_byte, trues_le, kept_lt}

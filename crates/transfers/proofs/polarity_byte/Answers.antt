@@ -1,5 +1,4 @@
 -- `transfers::polarity_byte` meets its contract.
-use borrow.Author.Rules.{rules}
 use Rattle.clock.proofs.Branches.{branches}
 use Rattle.transfers.proofs.polarity_byte.Goals as goal
 

@@ -1,5 +1,4 @@
 -- `transfers::read_timing` meets its contract.
-use borrow.Author.Rules.{rules}
 use Rattle.transfers.proofs.read_timing.Goals as goal
 
 pub returns : goal.returns

@@ -1,5 +1,4 @@
 -- `transfers::write_and` meets its contract.
-use borrow.Author.Rules.{rules}
 use Rattle.transfers.proofs.write_and.Goals as goal
 
 pub returns : goal.returns

@@ -1,5 +1,4 @@
 -- `transfers::write_final_word` meets its contract.
-use borrow.Author.Rules.{rules}
 use Rattle.transfers.proofs.write_final_word.Goals as goal
 
 pub returns : goal.returns

@@ -1,5 +1,4 @@
 -- `transfers::write_function` meets its contract.
-use borrow.Author.Rules.{rules}
 use Rattle.transfers.proofs.write_function.Goals as goal
 
 pub returns : goal.returns

@@ -1,5 +1,4 @@
 -- `transfers::write_mode` meets its contract.
-use borrow.Author.Rules.{rules}
 use Rattle.transfers.proofs.write_mode.Goals as goal
 
 pub returns : goal.returns

@@ -1,5 +1,4 @@
 -- `transfers::write_new_map` meets its contract.
-use borrow.Author.Rules.{rules}
 use Rattle.transfers.proofs.write_new_map.Goals as goal
 
 pub returns : goal.returns

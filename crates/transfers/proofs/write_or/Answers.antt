@@ -1,5 +1,4 @@
 -- `transfers::write_or` meets its contract.
-use borrow.Author.Rules.{rules}
 use Rattle.transfers.proofs.write_or.Goals as goal
 
 pub returns : goal.returns

@@ -1,5 +1,4 @@
 -- `transfers::write_period` meets its contract.
-use borrow.Author.Rules.{rules}
 use Rattle.transfers.proofs.write_period.Goals as goal
 
 pub returns : goal.returns

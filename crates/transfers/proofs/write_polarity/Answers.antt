@@ -1,5 +1,4 @@
 -- `transfers::write_polarity` meets its contract.
-use borrow.Author.Rules.{rules}
 use Rattle.transfers.proofs.write_polarity.Goals as goal
 
 pub returns : goal.returns

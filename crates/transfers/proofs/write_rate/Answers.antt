@@ -1,5 +1,4 @@
 -- `transfers::write_rate` meets its contract.
-use borrow.Author.Rules.{rules}
 use Rattle.transfers.proofs.write_rate.Goals as goal
 
 pub returns : goal.returns

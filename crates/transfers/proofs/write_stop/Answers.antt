@@ -1,5 +1,4 @@
 -- `transfers::write_stop` meets its contract.
-use borrow.Author.Rules.{rules}
 use Rattle.transfers.proofs.write_stop.Goals as goal
 
 pub returns : goal.returns

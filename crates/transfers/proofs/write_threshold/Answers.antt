@@ -1,5 +1,4 @@
 -- `transfers::write_threshold` meets its contract.
-use borrow.Author.Rules.{rules}
 use Rattle.transfers.proofs.write_threshold.Goals as goal
 
 pub returns : goal.returns

@@ -1,5 +1,4 @@
 -- `verdicts::last_read` meets its contract.
-use borrow.Author.Rules.{rules}
 use Rattle.steps.specs.Steps.{settled}
 use Rattle.verdicts.proofs.last_read.Goals as goal
 

@@ -1,5 +1,4 @@
 -- `verdicts::oscillated` meets its contract.
-use borrow.Author.Rules.{rules}
 use native.Mathlib.Omega.{arith}
 use mathlib.Core.Path.{◌∙◌, refl}
 use Rattle.verdicts.proofs.Laws.{timed_is}

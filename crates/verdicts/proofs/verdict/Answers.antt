@@ -1,5 +1,4 @@
 -- `verdicts::verdict` meets its contract.
-use borrow.Author.Rules.{rules}
 use Rattle.steps.specs.Steps.{settled}
 use Rattle.verdicts.proofs.Cases.{cases}
 use Rattle.verdicts.proofs.verdict.Goals as goal

@@ -3,7 +3,6 @@ use mathlib.Core.Path.{◌≡◌, refl, ◌∙◌}
 use Rattle.records.specs.Records.{record_in}
 use Rattle.layout.specs.Layout.{session_of, session_in}
 use Rattle.vl53l0x.specs.Exports.{met}
-use borrow.Author.Rules.{rules}
 use Rattle.vl53l0x.proofs.meet.Goals as goal
 
 pub returns : goal.returns

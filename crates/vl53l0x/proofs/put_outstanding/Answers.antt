@@ -1,8 +1,7 @@
 -- `vl53l0x::put_outstanding` meets its contract.
-use mathlib.Core.Path.{refl, sym, ◌∙◌}
+use mathlib.Core.Path.{sym, ◌∙◌}
 use borrow.Author.Tests.{eq-eqb, ne_eqb}
 use Rattle.vl53l0x.specs.Exports.{outstanding_bytes}
-use borrow.Author.Rules.{rules}
 use Rattle.vl53l0x.proofs.put_outstanding.Goals as goal
 
 pub returns-then-ill_formed : goal.returns-then-ill_formed

@@ -2,7 +2,6 @@
 use mathlib.Core.Path.{refl}
 use lib.ListN.{length}
 use borrow.Author.Tests.{eq-eqb, ne_eqb}
-use borrow.Author.Rules.{rules}
 use Rattle.vl53l0x.proofs.vl53l0x_fresh.Goals as goal
 
 pub returns-then-session-eq52 : goal.returns-then-session-eq52

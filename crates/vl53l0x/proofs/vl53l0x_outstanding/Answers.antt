@@ -2,7 +2,6 @@
 use mathlib.Core.Path.{refl, sym, ◌∙◌}
 use Rattle.layout.specs.Layout.{session_in}
 use Rattle.vl53l0x.specs.Exports.{outstanding_in}
-use borrow.Author.Rules.{rules}
 use Rattle.vl53l0x.proofs.vl53l0x_outstanding.Goals as goal
 
 pub returns-then-is_session : goal.returns-then-is_session

@@ -4,7 +4,6 @@ use lib.ListN.{length}
 use borrow.Author.Tests.{eq-eqb, ne_eqb}
 use Rattle.layout.proofs.Images.{fifty_two}
 use Rattle.vl53l0x.specs.Exports.{step_outcome, step_session}
-use borrow.Author.Rules.{rules}
 use Rattle.vl53l0x.proofs.vl53l0x_step.Goals as goal
 
 pub returns-then-outcome-ne11 : goal.returns-then-outcome-ne11

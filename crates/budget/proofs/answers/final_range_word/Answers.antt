@@ -1,6 +1,5 @@
 -- `budget::answers::final_range_word` meets its contract.
 use mathlib.Core.Path.{ap, ◌∙◌}
-use borrow.Author.Rules.{rules}
 use Rattle.timing.specs.declared.PlaceOr.{PlaceOr}
 use Rattle.budget.specs.Budget.{word_after}
 use Rattle.budget.specs.Budget.{final_range_word}

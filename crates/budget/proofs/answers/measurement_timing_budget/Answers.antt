@@ -1,6 +1,5 @@
 -- `budget::answers::measurement_timing_budget` meets its contract.
 use mathlib.Core.Path.{ap, ◌∙◌}
-use borrow.Author.Rules.{rules}
 use Rattle.timing.specs.declared.PlaceOr.{PlaceOr}
 use Rattle.budget.specs.Budget.{budget_after}
 use Rattle.budget.specs.Budget.{measurement_timing_budget}

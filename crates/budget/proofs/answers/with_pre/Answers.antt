@@ -2,7 +2,6 @@
 use mathlib.Core.Path.{◌≡◌, ap}
 use Prim.Native.Nat.{◌%◌}
 use native.Mathlib.Omega.{arith}
-use borrow.Author.Rules.{rules}
 use Rattle.clock.specs.declared.Mclks.{Mclks}
 use Rattle.budget.proofs.answers.with_pre.Goals as goal
 

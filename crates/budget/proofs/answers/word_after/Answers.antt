@@ -1,5 +1,4 @@
 -- `budget::answers::word_after` meets its contract: in each arm the place is what the arm has matched.
-use borrow.Author.Rules.{rules}
 use Rattle.budget.proofs.answers.word_after.Goals as goal
 
 pub returns-in-Place : goal.returns-in-Place

@@ -1,5 +1,4 @@
 -- `budget::answers::word_of_clocks` meets its contract: in each arm the clocks are what the arm has matched.
-use borrow.Author.Rules.{rules}
 use Rattle.budget.proofs.answers.word_of_clocks.Goals as goal
 
 pub returns-in-Place : goal.returns-in-Place

@@ -2,7 +2,6 @@
 use Prim.Native.Nat.{◌<◌, ◌≤◌}
 use native.Mathlib.Omega.{arith}
 use borrow.Author.Tests.{lt-ltb, le-ltb}
-use borrow.Author.Rules.{rules}
 use Rattle.budget.specs.Budget.{word_within}
 use Rattle.budget.proofs.answers.word_within.Goals as goal
 

@@ -2,7 +2,6 @@
 use mathlib.Core.Path.{◌≡◌, sym, ap, ◌∙◌, subst}
 use Prim.Native.Nat.{ℕ, ◌^◌, ◌≤◌, ◌<◌}
 use native.Mathlib.Omega.{arith}
-use borrow.Author.Rules.{rules}
 use Rattle.timing.specs.Timeouts.{time_in, final_time}
 use Rattle.clock.specs.declared.Microseconds.{Microseconds}
 use Rattle.budget.specs.Sums.{budget_sum}

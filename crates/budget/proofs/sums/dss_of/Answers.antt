@@ -1,6 +1,5 @@
 -- `budget::sums::dss_of` meets its contract.
 use mathlib.Core.Path.{sym, ap}
-use borrow.Author.Rules.{rules}
 use Rattle.budget.specs.Sums.{dss_of}
 use Rattle.budget.specs.declared.DssTerm.{DssTerm}
 use Rattle.budget.proofs.sums.dss_of.Goals as goal

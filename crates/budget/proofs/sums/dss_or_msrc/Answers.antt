@@ -1,5 +1,4 @@
 -- `budget::sums::dss_or_msrc` meets its contract.
-use borrow.Author.Rules.{rules}
 use Rattle.clock.proofs.Branches.{branches}
 use Rattle.budget.specs.Sums.{dss_or_msrc}
 use Rattle.budget.proofs.sums.dss_or_msrc.Goals as goal

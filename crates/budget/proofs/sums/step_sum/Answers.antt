@@ -2,7 +2,6 @@
 use mathlib.Core.Path.{◌≡◌, sym, subst}
 use Prim.Native.Nat.{ℕ, ◌+◌, ◌*◌, ◌≤◌}
 use native.Mathlib.Omega.{arith}
-use borrow.Author.Rules.{rules}
 use Rattle.budget.specs.Sums.{step_sum}
 use Rattle.budget.proofs.Bounds.{when_le, part_le}
 use Rattle.budget.proofs.sums.step_sum.Goals as goal

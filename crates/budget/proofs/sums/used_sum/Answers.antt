@@ -1,7 +1,6 @@
 -- `budget::sums::used_sum` meets its contract: the sum is the definition's, which fits 32 bits.
 use mathlib.Core.Path.{◌≡◌, sym, ap, subst}
 use Prim.Native.Nat.{ℕ, ◌^◌, ◌<◌}
-use borrow.Author.Rules.{rules}
 use Rattle.budget.specs.Sums.{used_sum}
 use Rattle.budget.proofs.Bounds.{used_fits}
 use Rattle.budget.proofs.sums.used_sum.Goals as goal

@@ -1,5 +1,4 @@
 -- `calls::bring_up::from_gpio` meets its contract.
-use borrow.Author.Rules.{rules}
 use native.Mathlib.Omega.{arith}
 use Rattle.session.specs.declared.Instruction.{Instruction}
 use Rattle.session.specs.Calls.{gpio_steps}

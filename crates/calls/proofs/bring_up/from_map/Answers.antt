@@ -1,5 +1,4 @@
 -- `calls::bring_up::from_map` meets its contract.
-use borrow.Author.Rules.{rules}
 use native.Mathlib.Omega.{arith}
 use Rattle.calls.specs.Parts.{map_steps, from_tuning}
 use Rattle.calls.proofs.Steps.{in_first, in_second}

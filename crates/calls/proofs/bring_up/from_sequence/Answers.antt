@@ -1,5 +1,4 @@
 -- `calls::bring_up::from_sequence` meets its contract.
-use borrow.Author.Rules.{rules}
 use mathlib.Core.List.{[], ◌∷◌}
 use native.Mathlib.Omega.{arith}
 use Rattle.session.specs.declared.Instruction.{Instruction}

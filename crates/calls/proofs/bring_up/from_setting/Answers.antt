@@ -1,5 +1,4 @@
 -- `calls::bring_up::from_setting` meets its contract.
-use borrow.Author.Rules.{rules}
 use native.Mathlib.Omega.{arith}
 use Rattle.session.specs.Instructions.{second_slot}
 use Rattle.session.specs.Calls.{budget_steps}

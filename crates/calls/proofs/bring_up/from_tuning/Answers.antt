@@ -1,5 +1,4 @@
 -- `calls::bring_up::from_tuning` meets its contract.
-use borrow.Author.Rules.{rules}
 use native.Mathlib.Omega.{arith}
 use Rattle.session.specs.Calls.{rows, tuning}
 use Rattle.calls.specs.Parts.{from_gpio}

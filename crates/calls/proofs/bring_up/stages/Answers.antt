@@ -1,5 +1,4 @@
 -- `calls::bring_up::stages` meets its contract.
-use borrow.Author.Rules.{rules}
 use native.Mathlib.Omega.{arith}
 use Rattle.calls.specs.Parts.{stage, second_stage}
 use Rattle.calls.proofs.Steps.{in_first, in_second}

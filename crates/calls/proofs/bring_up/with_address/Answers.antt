@@ -1,5 +1,4 @@
 -- `calls::bring_up::with_address` meets its contract.
-use borrow.Author.Rules.{rules}
 use native.Mathlib.Omega.{arith}
 use Rattle.session.specs.Calls.{tuning}
 use Rattle.calls.specs.Parts.{opening, from_spads}

@@ -1,5 +1,4 @@
 -- `calls::sections::three` meets its contract.
-use borrow.Author.Rules.{rules}
 use mathlib.Core.List.{[], ◌∷◌}
 use native.Mathlib.Omega.{arith}
 use Rattle.calls.proofs.Steps.{head_step, in_second}

@@ -1,5 +1,4 @@
 -- `calls::tables::read_range_single` meets its contract.
-use borrow.Author.Rules.{rules}
 use native.Mathlib.Omega.{arith}
 use Rattle.session.specs.Calls.{preparation}
 use Rattle.calls.specs.Parts.{single_steps}

@@ -1,5 +1,4 @@
 -- `calls::tables::single_steps` meets its contract.
-use borrow.Author.Rules.{rules}
 use native.Mathlib.Omega.{arith}
 use Rattle.session.specs.declared.Instruction.{Instruction}
 use Rattle.calls.specs.Parts.{range_steps, single_start}

@@ -1,5 +1,4 @@
 -- `calls::tables::start_continuous` meets its contract.
-use borrow.Author.Rules.{rules}
 use native.Mathlib.Omega.{arith}
 use Rattle.session.specs.Calls.{preparation}
 use Rattle.calls.specs.Parts.{start_steps}

@@ -1,5 +1,4 @@
 -- `calls::tuning::load_tuning_settings` meets its contract.
-use borrow.Author.Rules.{rules}
 use mathlib.Core.List.{[], ◌∷◌}
 use native.Mathlib.Omega.{arith}
 use Rattle.session.specs.Calls.{tuning}

@@ -1,5 +1,4 @@
 -- `calls::tuning::tuning_row` meets its contract.
-use borrow.Author.Rules.{rules}
 use mathlib.Core.List.{[], ◌∷◌, map}
 use native.Mathlib.Omega.{arith}
 use Rattle.session.specs.Calls.{tuning}

@@ -1,5 +1,4 @@
 -- `driver::begins::begin` meets its contract.
-use borrow.Author.Rules.{rules}
 use Rattle.reactions.proofs.Meets.{gone}
 use Rattle.driver.proofs.begins.begin.Goals as goal
 

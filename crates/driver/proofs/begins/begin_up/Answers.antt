@@ -1,6 +1,5 @@
 -- `driver::begins::begin_up` meets its contract.
 use mathlib.Core.Path.{refl}
-use borrow.Author.Rules.{rules}
 use Rattle.clock.proofs.Branches.{then, other}
 use Rattle.reactions.proofs.Meets.{reaches_as}
 use Rattle.driver.specs.Replies.{beginning}

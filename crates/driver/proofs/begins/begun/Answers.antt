@@ -1,6 +1,5 @@
 -- `driver::begins::begun` meets its contract.
 use mathlib.Core.Path.{refl}
-use borrow.Author.Rules.{rules}
 use Rattle.driver.proofs.begins.begun.Goals as goal
 
 pub returns : goal.returns

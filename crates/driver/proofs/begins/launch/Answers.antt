@@ -2,7 +2,6 @@
 use mathlib.Core.Path.{sym, subst}
 use Prim.Native.Nat.{◌≤◌}
 use native.Mathlib.Omega.{arith}
-use borrow.Author.Rules.{rules}
 use Rattle.calls.specs.declared.Call.{Call}
 use Rattle.calls.specs.Calls.{most_for}
 use Rattle.steps.specs.Steps.{most_at}

@@ -1,5 +1,4 @@
 -- `driver::begins::not_up` meets its contract.
-use borrow.Author.Rules.{rules}
 use Rattle.clock.proofs.Branches.{branches}
 use Rattle.driver.proofs.begins.not_up.Goals as goal
 

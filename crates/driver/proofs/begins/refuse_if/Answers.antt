@@ -1,6 +1,5 @@
 -- `driver::begins::refuse_if` meets its contract.
 use mathlib.Core.Path.{◌∙◌, sym}
-use borrow.Author.Rules.{rules}
 use Rattle.reactions.proofs.Meets.{reaches_as}
 use Rattle.driver.proofs.Meets.{other_broken, other_13}
 use Rattle.driver.proofs.begins.refuse_if.Goals as goal

@@ -1,7 +1,6 @@
 -- `driver::replies::outstanding_if` meets its contract.
 use mathlib.Core.Path.{◌∙◌, sym, subst}
 use Prim.Native.Nat.{◌≤◌}
-use borrow.Author.Rules.{rules}
 use Rattle.clock.proofs.Branches.{branches}
 use Rattle.session.specs.declared.Instruction.{Instruction}
 use Rattle.steps.specs.Steps.{most_at}

@@ -1,5 +1,4 @@
 -- `driver::replies::reply` meets its contract.
-use borrow.Author.Rules.{rules}
 use Rattle.reactions.proofs.Meets.{gone}
 use Rattle.driver.proofs.replies.reply.Goals as goal
 

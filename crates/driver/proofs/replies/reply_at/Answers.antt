@@ -1,7 +1,6 @@
 -- `driver::replies::reply_at` meets its contract.
 use mathlib.Core.Path.{◌∙◌, sym, subst}
 use Prim.Native.Nat.{◌≤◌}
-use borrow.Author.Rules.{rules}
 use Rattle.session.specs.declared.Instruction.{Instruction}
 use Rattle.steps.specs.Steps.{most_at}
 use Rattle.checks.proofs.Places.{written_fits, arguments_sound, well_formed}

@@ -1,6 +1,5 @@
 -- `driver::replies::reply_course` meets its contract.
 use mathlib.Core.Path.{◌∙◌}
-use borrow.Author.Rules.{rules}
 use Rattle.checks.proofs.Places.{ill_is}
 use Rattle.driver.proofs.replies.reply_course.Goals as goal
 

@@ -1,5 +1,4 @@
 -- `driver::replies::take_at` meets its contract.
-use borrow.Author.Rules.{rules}
 use Rattle.driver.proofs.replies.take_at.Goals as goal
 
 pub returns : goal.returns

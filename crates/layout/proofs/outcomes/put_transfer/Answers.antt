@@ -2,7 +2,6 @@
 use mathlib.Core.Path.{refl}
 use lib.ListN.{length}
 use borrow.Author.Tests.{eq-eqb, ne_eqb}
-use borrow.Author.Rules.{rules}
 use Rattle.layout.proofs.outcomes.put_transfer.Goals as goal
 
 pub returns-then-lent-eq11 : goal.returns-then-lent-eq11

@@ -3,7 +3,6 @@ use mathlib.Core.Path.{refl}
 use Rattle.lines.proofs.Putting.{then}
 use Rattle.layout.specs.Layout.{answer_bytes}
 use Rattle.layout.proofs.Images.{fills}
-use borrow.Author.Rules.{rules}
 use Rattle.layout.proofs.outcomes.write_answer.Goals as goal
 
 pub returns : goal.returns

@@ -1,6 +1,5 @@
 -- `layout::outcomes::write_outcome` meets its contract.
 use Rattle.layout.specs.Layout.{given_bytes}
-use borrow.Author.Rules.{rules}
 use Rattle.layout.proofs.outcomes.write_outcome.Goals as goal
 
 pub returns-in-Sent : goal.returns-in-Sent

@@ -4,7 +4,6 @@ use native.Mathlib.Omega.{arith}
 use Rattle.lines.proofs.Putting.{then}
 use Rattle.layout.specs.Layout.{transfer_bytes}
 use Rattle.layout.proofs.Images.{fills, framed}
-use borrow.Author.Rules.{rules}
 use Rattle.layout.proofs.outcomes.write_transfer.Goals as goal
 
 pub returns : goal.returns

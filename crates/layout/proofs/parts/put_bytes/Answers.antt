@@ -1,12 +1,10 @@
 -- `layout::parts::put_bytes` meets its contract.
 use mathlib.Core.Path.{◌≡◌, refl}
-use Prim.Native.Nat.{◌+◌, ◌-◌, ◌≤◌, ◌<◌}
+use Prim.Native.Nat.{◌<◌}
 use native.Mathlib.Numerals.{add-one}
 use native.Mathlib.Omega.{arith}
-use lib.ListN.{length, take}
+use lib.ListN.{length}
 use lib.Seq.{take-suc, take_all}
-use borrow.Author.Rules.{rules}
-use Rattle.lines.specs.Put.{Put}
 use Rattle.lines.proofs.Putting.{then}
 use Rattle.layout.proofs.parts.put_bytes.Goals as goal
 

@@ -1,7 +1,6 @@
 -- `layout::parts::put_long` meets its contract.
 use Rattle.lines.proofs.Putting.{then}
 use Rattle.layout.proofs.Images.{two_words}
-use borrow.Author.Rules.{rules}
 use Rattle.layout.proofs.parts.put_long.Goals as goal
 
 pub returns : goal.returns

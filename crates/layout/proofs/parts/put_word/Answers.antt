@@ -1,6 +1,5 @@
 -- `layout::parts::put_word` meets its contract.
 use Rattle.lines.proofs.Putting.{then}
-use borrow.Author.Rules.{rules}
 use Rattle.layout.proofs.parts.put_word.Goals as goal
 
 pub returns : goal.returns

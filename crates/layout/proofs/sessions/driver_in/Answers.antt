@@ -1,7 +1,6 @@
 -- `layout::sessions::driver_in` meets its contract.
 use mathlib.Core.Path.{refl}
 use Rattle.layout.specs.Layout.{session_of}
-use borrow.Author.Rules.{rules}
 use Rattle.layout.proofs.sessions.driver_in.Goals as goal
 
 pub returns : goal.returns

@@ -3,7 +3,6 @@ use mathlib.Core.Path.{refl, sym}
 use lib.ListN.{length}
 use borrow.Author.Tests.{eq-eqb, ne_eqb}
 use Rattle.layout.specs.Layout.{is_session}
-use borrow.Author.Rules.{rules}
 use Rattle.layout.proofs.sessions.is_session.Goals as goal
 
 pub returns-then-lent-eq52 : goal.returns-then-lent-eq52

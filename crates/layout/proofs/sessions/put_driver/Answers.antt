@@ -1,7 +1,6 @@
 -- `layout::sessions::put_driver` meets its contract.
 use Rattle.lines.proofs.Putting.{then}
 use Rattle.layout.proofs.Images.{as_number}
-use borrow.Author.Rules.{rules}
 use Rattle.layout.proofs.sessions.put_driver.Goals as goal
 
 pub returns : goal.returns

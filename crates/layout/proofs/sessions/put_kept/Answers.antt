@@ -1,7 +1,6 @@
 -- `layout::sessions::put_kept` meets its contract.
 use native.Mathlib.Omega.{arith}
 use Rattle.lines.proofs.Putting.{then}
-use borrow.Author.Rules.{rules}
 use Rattle.layout.proofs.sessions.put_kept.Goals as goal
 
 pub returns : goal.returns

@@ -2,7 +2,6 @@
 use mathlib.Core.Path.{refl}
 use lib.ListN.{length}
 use borrow.Author.Tests.{eq-eqb, ne_eqb}
-use borrow.Author.Rules.{rules}
 use Rattle.layout.proofs.sessions.put_session.Goals as goal
 
 pub returns-then-lent-eq52 : goal.returns-then-lent-eq52

@@ -1,6 +1,5 @@
 -- `layout::sessions::put_waiting` meets its contract.
 use Rattle.lines.proofs.Putting.{then}
-use borrow.Author.Rules.{rules}
 use Rattle.layout.proofs.sessions.put_waiting.Goals as goal
 
 pub returns : goal.returns

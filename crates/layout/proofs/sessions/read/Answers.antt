@@ -1,7 +1,6 @@
 -- `layout::sessions::read` meets its contract.
 use mathlib.Core.Path.{refl}
 use Rattle.layout.specs.Layout.{session_of}
-use borrow.Author.Rules.{rules}
 use Rattle.layout.proofs.sessions.read.Goals as goal
 
 pub returns : goal.returns

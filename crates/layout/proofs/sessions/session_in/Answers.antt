@@ -1,8 +1,7 @@
 -- `layout::sessions::session_in` meets its contract.
-use mathlib.Core.Path.{refl, sym, ◌∙◌}
+use mathlib.Core.Path.{sym, ◌∙◌}
 use Rattle.layout.specs.Layout.{session_in}
 use Rattle.layout.proofs.Images.{fifty_two}
-use borrow.Author.Rules.{rules}
 use Rattle.layout.proofs.sessions.session_in.Goals as goal
 
 pub read-requires : goal.read-requires

@@ -3,7 +3,6 @@ use native.Mathlib.Omega.{arith}
 use Rattle.lines.proofs.Putting.{then}
 use Rattle.layout.specs.Layout.{session_bytes}
 use Rattle.layout.proofs.Images.{fills}
-use borrow.Author.Rules.{rules}
 use Rattle.layout.proofs.sessions.write.Goals as goal
 
 pub returns : goal.returns

@@ -1,9 +1,7 @@
 -- `lines::digits::put_decimal`, which calls itself on a tenth of the number, meets its contract. The measure is the number.
 use mathlib.Core.Path.{ap}
-use Prim.Native.Nat.{ℕ, ◌<◌}
 use native.Mathlib.Omega.{arith}
 use lib.ListN.{length}
-use borrow.Author.Rules.{rules}
 use Rattle.lines.proofs.Numbers.{decimal_one, decimal_more, length_more}
 use Rattle.lines.proofs.Putting.{then}
 use Rattle.lines.proofs.digits.+put_decimal.Goals as goal

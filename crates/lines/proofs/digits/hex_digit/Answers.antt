@@ -1,5 +1,4 @@
 -- `lines::digits::hex_digit` meets its contract.
-use borrow.Author.Rules.{rules}
 use Rattle.clock.proofs.Branches.{branches}
 use Rattle.lines.specs.Lines.{hex_digit}
 use Rattle.lines.proofs.digits.hex_digit.Goals as goal

@@ -1,6 +1,5 @@
 -- `lines::digits::put_number` meets its contract.
 use native.Mathlib.Omega.{arith}
-use borrow.Author.Rules.{rules}
 use Rattle.lines.proofs.Numbers.{word_digits}
 use Rattle.lines.proofs.Putting.{then}
 use Rattle.lines.proofs.digits.put_number.Goals as goal

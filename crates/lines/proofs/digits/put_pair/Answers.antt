@@ -1,5 +1,4 @@
 -- `lines::digits::put_pair` meets its contract.
-use borrow.Author.Rules.{rules}
 use Rattle.lines.proofs.Putting.{then}
 use Rattle.lines.proofs.digits.put_pair.Goals as goal
 

@@ -1,12 +1,9 @@
 -- `lines::digits::put_pairs` meets its contract.
 use mathlib.Core.Path.{◌≡◌, refl}
-use Prim.Native.Nat.{◌+◌, ◌-◌, ◌*◌, ◌≤◌, ◌<◌, min}
+use Prim.Native.Nat.{◌<◌, min}
 use native.Mathlib.Numerals.{add-one}
 use native.Mathlib.Omega.{arith}
-use lib.ListN.{length, take}
-use borrow.Author.Rules.{rules}
-use Rattle.lines.specs.Lines.{hex_pairs}
-use Rattle.lines.specs.Put.{Put}
+use lib.ListN.{length}
 use Rattle.lines.proofs.Numbers.{pairs_suc, take_least}
 use Rattle.lines.proofs.Putting.{then}
 use Rattle.lines.proofs.digits.put_pairs.Goals as goal

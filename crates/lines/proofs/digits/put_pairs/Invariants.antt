@@ -1,13 +1,8 @@
-use mathlib.Core.Path.{◌≡◌, refl}
-use Prim.Native.Nat.{◌+◌, ◌-◌, ◌*◌, ◌≤◌, ◌<◌, min}
-use native.Mathlib.Numerals.{add-one}
-use native.Mathlib.Omega.{arith}
+use mathlib.Core.Path.{◌≡◌}
+use Prim.Native.Nat.{◌+◌, ◌-◌, ◌*◌, ◌≤◌}
 use lib.ListN.{length, take}
-use borrow.Author.Rules.{rules}
 use Rattle.lines.specs.Lines.{hex_pairs}
 use Rattle.lines.specs.Put.{Put}
-use Rattle.lines.proofs.Numbers.{pairs_suc, take_least}
-use Rattle.lines.proofs.Putting.{then}
 use Rattle.lines.proofs.digits.put_pairs.Given as goal
 
 abbrev pub invariant-loop-i : goal.invariant-loop-i

@@ -1,6 +1,5 @@
 -- `lines::digits::put_small` meets its contract.
 use native.Mathlib.Omega.{arith}
-use borrow.Author.Rules.{rules}
 use Rattle.lines.proofs.Numbers.{byte_digits}
 use Rattle.lines.proofs.Putting.{then}
 use Rattle.lines.proofs.digits.put_small.Goals as goal

@@ -1,6 +1,5 @@
 -- `reactions::kept::keep_if` meets its contract.
 use mathlib.Core.Path.{refl, ◌∙◌}
-use borrow.Author.Rules.{rules}
 use Rattle.clock.proofs.Branches.{then, other}
 use Rattle.reactions.specs.Reactions.{keep_if}
 use Rattle.reactions.proofs.kept.keep_if.Goals as goal

@@ -1,5 +1,4 @@
 -- `reactions::kept::keeps` meets its contract.
-use borrow.Author.Rules.{rules}
 use Rattle.reactions.specs.Reactions.{keeps}
 use Rattle.reactions.proofs.Cases.{cases}
 use Rattle.reactions.proofs.kept.keeps.Goals as goal

@@ -1,6 +1,5 @@
 -- `reactions::kept::kept_by` meets its contract.
-use borrow.Author.Rules.{rules}
-use Rattle.reactions.specs.Reactions.{keeps, kept_by}
+use Rattle.reactions.specs.Reactions.{kept_by}
 use Rattle.reactions.proofs.kept.kept_by.Goals as goal
 
 pub returns : goal.returns

@@ -1,5 +1,4 @@
 -- `reactions::kept::with_failure` meets its contract.
-use borrow.Author.Rules.{rules}
 use Rattle.reactions.specs.Reactions.{with_failure}
 use Rattle.reactions.proofs.Cases.{cases}
 use Rattle.reactions.proofs.kept.with_failure.Goals as goal

@@ -1,7 +1,6 @@
 -- `reactions::outcomes::address_of` meets its contract.
 use native.Mathlib.Nat.{mod-eq_of_lt}
 use native.Mathlib.Omega.{arith}
-use borrow.Author.Rules.{rules}
 use borrow.Author.Tests.{eq-eqb}
 use Rattle.clock.proofs.Branches.{then, branches}
 use Rattle.checks.proofs.Places.{address_small}

@@ -1,6 +1,5 @@
 -- `reactions::outcomes::answer` meets its contract.
 use mathlib.Core.Path.{refl}
-use borrow.Author.Rules.{rules}
 use Rattle.reactions.specs.Outcome.{outcome_of}
 use Rattle.reactions.proofs.outcomes.answer.Goals as goal
 

@@ -1,6 +1,5 @@
 -- `reactions::outcomes::broken` meets its contract.
 use mathlib.Core.Path.{refl}
-use borrow.Author.Rules.{rules}
 use Rattle.reactions.specs.Outcome.{outcome_of}
 use Rattle.reactions.proofs.outcomes.broken.Goals as goal
 

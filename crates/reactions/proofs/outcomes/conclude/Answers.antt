@@ -1,7 +1,6 @@
 -- `reactions::outcomes::conclude` meets its contract.
 use mathlib.Core.Path.{◌∙◌, ap, sym, subst}
 use Prim.Native.Nat.{◌≤◌}
-use borrow.Author.Rules.{rules}
 use Rattle.calls.specs.declared.Call.{Call}
 use Rattle.calls.specs.Calls.{most_for}
 use Rattle.reactions.specs.Outcome.{outcome_of}

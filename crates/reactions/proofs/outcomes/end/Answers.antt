@@ -1,5 +1,4 @@
 -- `reactions::outcomes::end` meets its contract.
-use borrow.Author.Rules.{rules}
 use Rattle.reactions.specs.Reactions.{ending}
 use Rattle.reactions.proofs.Cases.{cases}
 use Rattle.reactions.proofs.outcomes.end.Goals as goal

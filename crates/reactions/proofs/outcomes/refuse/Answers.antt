@@ -1,6 +1,5 @@
 -- `reactions::outcomes::refuse` meets its contract.
 use mathlib.Core.Path.{refl}
-use borrow.Author.Rules.{rules}
 use Rattle.reactions.specs.Outcome.{outcome_of}
 use Rattle.reactions.proofs.outcomes.refuse.Goals as goal
 

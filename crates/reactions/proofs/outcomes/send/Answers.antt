@@ -1,5 +1,4 @@
 -- `reactions::outcomes::send` meets its contract.
-use borrow.Author.Rules.{rules}
 use Rattle.reactions.proofs.outcomes.send.Goals as goal
 
 pub returns : goal.returns

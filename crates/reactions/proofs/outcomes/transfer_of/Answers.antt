@@ -1,5 +1,4 @@
 -- `reactions::outcomes::transfer_of` meets its contract.
-use borrow.Author.Rules.{rules}
 use Rattle.reactions.proofs.outcomes.transfer_of.Goals as goal
 
 pub returns : goal.returns

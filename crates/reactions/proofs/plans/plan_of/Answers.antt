@@ -1,5 +1,4 @@
 -- `reactions::plans::plan_of` meets its contract.
-use borrow.Author.Rules.{rules}
 use Rattle.reactions.specs.Reactions.{plan_of}
 use Rattle.reactions.proofs.Cases.{cases}
 use Rattle.reactions.proofs.plans.plan_of.Goals as goal

@@ -1,6 +1,5 @@
 -- `reactions::ways::decided` meets its contract.
 use native.Mathlib.Numerals.{add-one}
-use borrow.Author.Rules.{rules}
 use Rattle.reactions.specs.Reactions.{decided_by}
 use Rattle.reactions.proofs.ways.decided.Goals as goal
 

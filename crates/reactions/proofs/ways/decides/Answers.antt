@@ -1,5 +1,4 @@
 -- `reactions::ways::decides` meets its contract.
-use borrow.Author.Rules.{rules}
 use Rattle.reactions.specs.Reactions.{decides}
 use Rattle.reactions.proofs.Cases.{cases}
 use Rattle.reactions.proofs.ways.decides.Goals as goal

@@ -1,6 +1,5 @@
 -- `reactions::ways::failed_way` meets its contract.
 use native.Mathlib.Numerals.{add-one}
-use borrow.Author.Rules.{rules}
 use Rattle.reactions.specs.Reactions.{failed_way}
 use Rattle.reactions.proofs.Cases.{cases}
 use Rattle.reactions.proofs.ways.failed_way.Goals as goal

@@ -1,8 +1,7 @@
 -- `reactions::ways::good_way` meets its contract.
 use mathlib.Core.Path.{refl, sym, ◌∙◌}
-use borrow.Author.Rules.{rules}
 use Rattle.clock.proofs.Branches.{then, other}
-use Rattle.reactions.specs.Reactions.{decides, good_way}
+use Rattle.reactions.specs.Reactions.{good_way}
 use Rattle.reactions.proofs.ways.good_way.Goals as goal
 
 pub returns-then-decides : goal.returns-then-decides

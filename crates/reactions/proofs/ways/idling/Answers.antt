@@ -1,6 +1,5 @@
 -- `reactions::ways::idling` meets its contract.
 use native.Mathlib.Omega.{arith}
-use borrow.Author.Rules.{rules}
 use Rattle.reactions.proofs.Meets.{idles, times_out}
 use Rattle.reactions.proofs.ways.idling.Goals as goal
 

@@ -1,5 +1,4 @@
 -- `reactions::ways::way_after` meets its contract.
-use borrow.Author.Rules.{rules}
 use Rattle.clock.proofs.Branches.{branches}
 use Rattle.reactions.specs.Reactions.{way_after}
 use Rattle.reactions.proofs.ways.way_after.Goals as goal

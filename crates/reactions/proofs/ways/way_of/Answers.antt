@@ -1,5 +1,4 @@
 -- `reactions::ways::way_of` meets its contract.
-use borrow.Author.Rules.{rules}
 use Rattle.reactions.specs.Reactions.{way_of}
 use Rattle.reactions.proofs.Cases.{cases}
 use Rattle.reactions.proofs.ways.way_of.Goals as goal

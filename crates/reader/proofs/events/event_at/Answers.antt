@@ -3,7 +3,6 @@ use mathlib.Core.Path.{refl, sym, ◌∙◌}
 use lib.ListN.{length}
 use borrow.Author.Tests.{lt-leb, le-leb}
 use Rattle.reader.specs.Events.{event_at}
-use borrow.Author.Rules.{rules}
 use Rattle.reader.proofs.events.event_at.Goals as goal
 
 pub returns-then-has_room : goal.returns-then-has_room

@@ -1,6 +1,5 @@
 -- `reader::events::event_of` meets its contract.
 use Rattle.reader.proofs.ByKind.{event_call, event_reply, event_other}
-use borrow.Author.Rules.{rules}
 use Rattle.reader.proofs.events.event_of.Goals as goal
 
 pub returns-then-record-eq1 : goal.returns-then-record-eq1

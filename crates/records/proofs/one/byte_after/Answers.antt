@@ -1,7 +1,6 @@
 -- `records::one::byte_after` meets its contract.
 use Prim.Native.Nat.{◌+◌}
 use native.Mathlib.Omega.{arith}
-use borrow.Author.Rules.{rules}
 use Rattle.session.proofs.Facts.{past}
 use Rattle.records.proofs.one.byte_after.Goals as goal
 

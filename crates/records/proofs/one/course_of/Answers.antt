@@ -1,5 +1,4 @@
 -- `records::one::course_of` meets its contract.
-use borrow.Author.Rules.{rules}
 use Rattle.reactions.proofs.Meets.{reaches_as}
 use Rattle.records.proofs.ByKind.{step_call, step_reply, step_other}
 use Rattle.records.proofs.one.course_of.Goals as goal

@@ -1,5 +1,4 @@
 -- `records::one::record_at` meets its contract.
-use borrow.Author.Rules.{rules}
 use Rattle.records.proofs.Turns.{eight_at}
 use Rattle.records.proofs.one.record_at.Goals as goal
 

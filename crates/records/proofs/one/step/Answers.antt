@@ -1,5 +1,4 @@
 -- `records::one::step` meets its contract.
-use borrow.Author.Rules.{rules}
 use Rattle.reactions.proofs.Meets.{gone}
 use Rattle.records.proofs.one.step.Goals as goal
 

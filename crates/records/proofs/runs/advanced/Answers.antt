@@ -1,5 +1,4 @@
 -- `records::runs::advanced` meets its contract.
-use borrow.Author.Rules.{rules}
 use Rattle.records.specs.Runs.{advanced}
 use Rattle.records.proofs.runs.advanced.Goals as goal
 

@@ -1,18 +1,16 @@
 -- `records::runs::go` meets its contract: what is left of the list, run from here, gives what the whole list gives.
 use mathlib.Core.Path.{◌≡◌, refl, sym, ◌∙◌, ap, subst}
-use Prim.Native.Nat.{◌+◌, ◌-◌, ◌%◌, ◌≤◌}
+use Prim.Native.Nat.{◌+◌, ◌≤◌}
 use native.Mathlib.Omega.{arith}
 use lib.ListN.{length, drop}
-use borrow.Author.Rules.{rules}
 use Rattle.records.specs.declared.runs.Progress.{Progress}
 use Rattle.records.specs.Records.{record_at}
-use Rattle.records.specs.Runs.{Room, starting, advance, going}
+use Rattle.records.specs.Runs.{Room, advance, going}
 use Rattle.records.proofs.Turns.{turn, no_turn, room_up, room_turn, room_none}
 use Rattle.records.proofs.runs.go.Goals as goal
 
 pub loop-i-init : goal.loop-i-init
-loop-i-init c =
-    (
+loop-i-init c = (
   omega arith,
   c.requires,
   refl,

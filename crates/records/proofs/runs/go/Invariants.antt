@@ -1,12 +1,7 @@
-use mathlib.Core.Path.{◌≡◌, refl, sym, ◌∙◌, ap, subst}
-use Prim.Native.Nat.{◌+◌, ◌-◌, ◌%◌, ◌≤◌}
-use native.Mathlib.Omega.{arith}
+use mathlib.Core.Path.{◌≡◌}
+use Prim.Native.Nat.{◌-◌, ◌%◌, ◌≤◌}
 use lib.ListN.{length, drop}
-use borrow.Author.Rules.{rules}
-use Rattle.records.specs.declared.runs.Progress.{Progress}
-use Rattle.records.specs.Records.{record_at}
-use Rattle.records.specs.Runs.{Room, starting, advance, going}
-use Rattle.records.proofs.Turns.{turn, no_turn, room_up, room_turn, room_none}
+use Rattle.records.specs.Runs.{Room, going}
 use Rattle.records.proofs.runs.go.Given as goal
 
 abbrev pub invariant-loop-i : goal.invariant-loop-i

@@ -1,5 +1,4 @@
 -- `records::runs::is_ill_formed` meets its contract.
-use borrow.Author.Rules.{rules}
 use Rattle.records.specs.Runs.{is_ill_formed}
 use Rattle.records.proofs.Cases.{cases}
 use Rattle.records.proofs.runs.is_ill_formed.Goals as goal

@@ -1,6 +1,5 @@
 -- `records::runs::run_fresh` meets its contract.
 use mathlib.Core.Path.{refl}
-use borrow.Author.Rules.{rules}
 use Rattle.records.proofs.Meets.{fresh_run}
 use Rattle.records.proofs.runs.run_fresh.Goals as goal
 

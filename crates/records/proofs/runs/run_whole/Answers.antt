@@ -1,6 +1,5 @@
 -- `records::runs::run_whole` meets its contract.
 use mathlib.Core.Path.{◌∙◌, sym}
-use borrow.Author.Rules.{rules}
 use Rattle.records.proofs.Meets.{runs_ill, runs_on}
 use Rattle.records.proofs.runs.run_whole.Goals as goal
 

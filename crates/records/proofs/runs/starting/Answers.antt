@@ -1,5 +1,4 @@
 -- `records::runs::starting` meets its contract.
-use borrow.Author.Rules.{rules}
 use Rattle.records.proofs.runs.starting.Goals as goal
 
 pub returns : goal.returns

@@ -1,6 +1,5 @@
 -- `records::runs::stopped` meets its contract.
 use mathlib.Core.Path.{refl}
-use borrow.Author.Rules.{rules}
 use Rattle.records.specs.Runs.{stopped_run}
 use Rattle.records.proofs.runs.stopped.Goals as goal
 

@@ -1,5 +1,4 @@
 -- `steps::kept::keep` meets its contract.
-use borrow.Author.Rules.{rules}
 use Rattle.steps.specs.Steps.{keeping}
 use mathlib.Core.Path.{refl}
 use Rattle.steps.proofs.kept.keep.Goals as goal

@@ -1,5 +1,4 @@
 -- `steps::kept::own_budget` meets its contract.
-use borrow.Author.Rules.{rules}
 use Rattle.steps.specs.Steps.{own_of}
 use Rattle.clock.proofs.Branches.{branches}
 use Rattle.steps.proofs.kept.own_budget.Goals as goal

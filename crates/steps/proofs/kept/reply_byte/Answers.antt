@@ -1,5 +1,4 @@
 -- `steps::kept::reply_byte` meets its contract.
-use borrow.Author.Rules.{rules}
 use native.Mathlib.Omega.{arith}
 use Rattle.session.proofs.Facts.{past}
 use Rattle.steps.proofs.kept.reply_byte.Goals as goal

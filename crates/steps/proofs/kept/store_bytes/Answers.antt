@@ -5,7 +5,6 @@ use mathlib.Core.List.{List}
 use Prim.Native.Nat.{ℕ, suc, ◌+◌, ◌-◌, ◌≤◌, ◌<◌}
 use native.Mathlib.Omega.{arith}
 use lib.ListN.{length, length-set, set}
-use borrow.Author.Rules.{rules}
 use Rattle.session.specs.Bus.{byte}
 use Rattle.session.specs.Instructions.{bytes_from, put}
 use Rattle.steps.proofs.Laws.{set_past}

@@ -1,12 +1,7 @@
-use mathlib.Core.Path.{◌≡◌, refl, ap, ◌∙◌}
-use mathlib.Core.List.{List}
-use Prim.Native.Nat.{ℕ, suc, ◌+◌, ◌-◌, ◌≤◌, ◌<◌}
-use native.Mathlib.Omega.{arith}
-use lib.ListN.{length, length-set, set}
-use borrow.Author.Rules.{rules}
-use Rattle.session.specs.Bus.{byte}
+use mathlib.Core.Path.{◌≡◌}
+use Prim.Native.Nat.{◌+◌, ◌-◌}
+use lib.ListN.{length}
 use Rattle.session.specs.Instructions.{bytes_from, put}
-use Rattle.steps.proofs.Laws.{set_past}
 use Rattle.steps.proofs.kept.store_bytes.Given as goal
 
 abbrev pub invariant-loop-k : goal.invariant-loop-k

@@ -1,5 +1,4 @@
 -- `steps::shapes::last_shape` meets its contract.
-use borrow.Author.Rules.{rules}
 use Rattle.steps.proofs.shapes.last_shape.Goals as goal
 
 pub returns : goal.returns

@@ -1,5 +1,4 @@
 -- `steps::shapes::shape_of` meets its contract.
-use borrow.Author.Rules.{rules}
 use Rattle.steps.proofs.Cases.{cases}
 use Rattle.steps.proofs.shapes.shape_of.Goals as goal
 

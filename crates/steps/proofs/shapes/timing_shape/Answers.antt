@@ -1,5 +1,4 @@
 -- `steps::shapes::timing_shape` meets its contract.
-use borrow.Author.Rules.{rules}
 use Rattle.steps.proofs.shapes.timing_shape.Goals as goal
 
 pub returns : goal.returns

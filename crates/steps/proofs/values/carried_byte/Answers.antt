@@ -1,5 +1,4 @@
 -- `steps::values::carried_byte` meets its contract.
-use borrow.Author.Rules.{rules}
 use native.Mathlib.Omega.{arith}
 use Rattle.session.proofs.Facts.{past}
 use Rattle.steps.proofs.values.carried_byte.Goals as goal

@@ -1,5 +1,4 @@
 -- `steps::values::eight_bytes` meets its contract.
-use borrow.Author.Rules.{rules}
 use Rattle.steps.proofs.Laws.{eight_from}
 use Rattle.steps.proofs.values.eight_bytes.Goals as goal
 

@@ -1,5 +1,4 @@
 -- `steps::values::timing_in` meets its contract.
-use borrow.Author.Rules.{rules}
 use mathlib.Core.Path.{◌∙◌, ap}
 use Rattle.timing.specs.Registers.{registers_of}
 use Rattle.steps.proofs.values.timing_in.Goals as goal

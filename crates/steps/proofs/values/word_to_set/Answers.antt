@@ -1,5 +1,4 @@
 -- `steps::values::word_to_set` meets its contract.
-use borrow.Author.Rules.{rules}
 use Rattle.steps.proofs.values.word_to_set.Goals as goal
 
 pub returns : goal.returns

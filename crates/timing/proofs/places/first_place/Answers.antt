@@ -1,6 +1,5 @@
 -- `timing::places::first_place` meets its contract.
 use mathlib.Core.Path.{ap, ◌∙◌}
-use borrow.Author.Rules.{rules}
 use Rattle.timing.specs.Places.{first_match, place_or, first_place}
 use Rattle.timing.proofs.places.first_place.Goals as goal
 

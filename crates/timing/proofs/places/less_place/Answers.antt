@@ -1,5 +1,4 @@
 -- `timing::places::less_place` meets its contract.
-use borrow.Author.Rules.{rules}
 use Rattle.timing.specs.Places.{less_place}
 use Rattle.timing.proofs.places.less_place.Goals as goal
 

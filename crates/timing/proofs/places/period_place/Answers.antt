@@ -1,6 +1,5 @@
 -- `timing::places::period_place` meets its contract: in each arm the decoded period is what the arm has matched.
 use mathlib.Core.Path.{sym, ◌∙◌}
-use borrow.Author.Rules.{rules}
 use Rattle.timing.specs.Places.{period_place}
 use Rattle.timing.proofs.places.period_place.Goals as goal
 

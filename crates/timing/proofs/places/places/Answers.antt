@@ -1,5 +1,4 @@
 -- `timing::places::places` meets its contract, entry by entry.
-use borrow.Author.Rules.{rules}
 use Rattle.timing.specs.Places.{entries_of}
 use Rattle.timing.proofs.places.places.Goals as goal
 

@@ -1,6 +1,5 @@
 -- `timing::places::timeout_place` meets its contract: in each arm the decoded timeout is what the arm has matched.
 use mathlib.Core.Path.{sym, ◌∙◌}
-use borrow.Author.Rules.{rules}
 use Rattle.timing.specs.Places.{timeout_place}
 use Rattle.timing.proofs.places.timeout_place.Goals as goal
 

@@ -1,5 +1,4 @@
 -- `timing::places::when_less` meets its contract.
-use borrow.Author.Rules.{rules}
 use Rattle.clock.proofs.Branches.{branches}
 use Rattle.timing.proofs.places.when_less.Goals as goal
 

@@ -1,5 +1,4 @@
 -- `timing::registers::timing_registers` meets its contract.
-use borrow.Author.Rules.{rules}
 use Rattle.timing.proofs.registers.timing_registers.Goals as goal
 
 pub returns : goal.returns

@@ -1,5 +1,4 @@
 -- `timing::timeouts::final_clocks` meets its contract.
-use borrow.Author.Rules.{rules}
 use Rattle.timing.specs.Timeouts.{final_clocks}
 use Rattle.timing.proofs.timeouts.final_clocks.Goals as goal
 

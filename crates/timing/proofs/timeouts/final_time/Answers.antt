@@ -1,5 +1,4 @@
 -- `timing::timeouts::final_time` meets its contract.
-use borrow.Author.Rules.{rules}
 use Rattle.timing.specs.Timeouts.{final_time}
 use Rattle.timing.proofs.timeouts.final_time.Goals as goal
 

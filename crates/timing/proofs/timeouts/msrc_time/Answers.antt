@@ -1,5 +1,4 @@
 -- `timing::timeouts::msrc_time` meets its contract.
-use borrow.Author.Rules.{rules}
 use Rattle.timing.specs.Timeouts.{msrc_time}
 use Rattle.timing.proofs.timeouts.msrc_time.Goals as goal
 

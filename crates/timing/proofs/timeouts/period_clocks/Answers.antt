@@ -1,6 +1,5 @@
 -- `timing::timeouts::period_clocks` meets its contract: in each arm the decoded period is what the arm has matched.
 use mathlib.Core.Path.{sym, ◌∙◌}
-use borrow.Author.Rules.{rules}
 use Rattle.timing.specs.Timeouts.{period_clocks}
 use Rattle.timing.proofs.timeouts.period_clocks.Goals as goal
 

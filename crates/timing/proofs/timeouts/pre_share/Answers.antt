@@ -1,5 +1,4 @@
 -- `timing::timeouts::pre_share` meets its contract.
-use borrow.Author.Rules.{rules}
 use Rattle.timing.specs.Timeouts.{pre_share}
 use Rattle.timing.proofs.timeouts.pre_share.Goals as goal
 

@@ -1,5 +1,4 @@
 -- `timing::timeouts::pre_time` meets its contract.
-use borrow.Author.Rules.{rules}
 use Rattle.timing.specs.Timeouts.{pre_time}
 use Rattle.timing.proofs.timeouts.pre_time.Goals as goal
 

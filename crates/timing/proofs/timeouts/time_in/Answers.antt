@@ -1,5 +1,4 @@
 -- `timing::timeouts::time_in` meets its contract.
-use borrow.Author.Rules.{rules}
 use Rattle.timing.proofs.timeouts.time_in.Goals as goal
 
 pub returns-in-Place : goal.returns-in-Place

@@ -1,6 +1,5 @@
 -- `timing::timeouts::timeout_clocks` meets its contract: in each arm the decoded timeout is what the arm has matched.
 use mathlib.Core.Path.{sym, ◌∙◌}
-use borrow.Author.Rules.{rules}
 use Rattle.timing.specs.Timeouts.{timeout_clocks}
 use Rattle.timing.proofs.timeouts.timeout_clocks.Goals as goal
 

@@ -1,5 +1,4 @@
 -- `transfers::written::new_map` meets its contract.
-use borrow.Author.Rules.{rules}
 use mathlib.Core.Path.{ap}
 use Rattle.spad.specs.declared.Selection.{Selection}
 use Rattle.spad.specs.Map.{selected, map_bytes}
