@@ -92,8 +92,8 @@ fn measuring(up: Fields) -> Vec<Trace> {
     let done = |name, call, sensor| Trace::new(name, Some(up)).call(call, sensor);
     let oscillator = |word: u16| silent().at(0xF8, &[word.to_be_bytes()]);
     vec![
-        done("who_am_i_call", Call::WhoAmI, silent().at(0xC0, &[[0xAA]])).answered(0, 0xAA),
-        done("set_address_call", Call::SetAddress(0x77), silent())
+        done("who_am_i", Call::WhoAmI, silent().at(0xC0, &[[0xAA]])).answered(0, 0xAA),
+        done("set_address", Call::SetAddress(0x77), silent())
             .call(Call::SetAddress(0x08), silent())
             .call(Call::WhoAmI, silent().at(0xC0, &[[0xEE]]))
             .answered(0, 0xEE),
@@ -101,11 +101,10 @@ fn measuring(up: Fields) -> Vec<Trace> {
         done("start_timed", Call::StartContinuous(1000), oscillator(0x0190)).answered(0, 0),
         done("start_uncalibrated", Call::StartContinuous(1000), oscillator(0)).answered(0, 0),
         done("start_longest", Call::StartContinuous(65537), oscillator(0xFFFF)).answered(0, 0),
-        done("stop_continuous_call", Call::StopContinuous, silent()).answered(0, 0),
+        done("stop_continuous", Call::StopContinuous, silent()).answered(0, 0),
         done("read_range", Call::ReadRange, ranging(&[[0x07]])).answered(0, 300),
-        done("read_range_continuous_call", Call::ReadRangeContinuous, ranging(&[[0x00], [0xF8], [0x04]]))
-            .answered(0, 300),
-        done("read_range_single_call", Call::ReadRangeSingle, ranging_single()).answered(0, 300),
+        done("read_range_continuous", Call::ReadRangeContinuous, ranging(&[[0x00], [0xF8], [0x04]])).answered(0, 300),
+        done("read_range_single", Call::ReadRangeSingle, ranging_single()).answered(0, 300),
     ]
 }
 
@@ -117,9 +116,9 @@ fn settings(up: Fields) -> Vec<Trace> {
         done(name, Call::SetGpioConfig(functionality, polarity), silent().at(0x84, &[[byte]])).answered(0, 0)
     };
     vec![
-        done("set_budget_call", Call::SetBudget(33_000), timing(silent(), &[BENCH])).answered(0, 0),
-        done("set_thresholds_call", Call::SetThresholds(301, 8190), silent()).answered(0, 0),
-        done("get_thresholds_call", Call::GetThresholds, silent().at(0x0E, &[[0xF0, 0x96]]).at(0x0C, &[[0x0F, 0xFF]]))
+        done("set_budget", Call::SetBudget(33_000), timing(silent(), &[BENCH])).answered(0, 0),
+        done("set_thresholds", Call::SetThresholds(301, 8190), silent()).answered(0, 0),
+        done("get_thresholds", Call::GetThresholds, silent().at(0x0E, &[[0xF0, 0x96]]).at(0x0C, &[[0x0F, 0xFF]]))
             .answered(0, 300 << 16 | 8190),
         pin("new_sample_low", NewSampleReady, ActiveLow, 0xFF),
         pin("new_sample_high", NewSampleReady, ActiveHigh, 0x00),
@@ -129,11 +128,11 @@ fn settings(up: Fields) -> Vec<Trace> {
         pin("level_high_high", LevelHigh, ActiveHigh, 0xFF),
         pin("out_of_window_low", OutOfWindow, ActiveLow, 0x10),
         pin("out_of_window_high", OutOfWindow, ActiveHigh, 0xEF),
-        done("clear_interrupt_status_call", Call::ClearInterruptStatus, silent().reading_back(0xFF)).answered(0, 0),
+        done("clear_interrupt_status", Call::ClearInterruptStatus, silent().reading_back(0xFF)).answered(0, 0),
         done("highest_rate", Call::SetSignalRateLimit(0x43FF_FEB8), silent()).answered(0, 0),
         done("quarter_rate", Call::SetSignalRateLimit(0x3E80_0000), silent()).answered(0, 0),
         done("negative_zero_rate", Call::SetSignalRateLimit(0x8000_0000), silent()).answered(0, 0),
-        done("get_budget_call", Call::GetBudget, timing(silent(), &[BENCH])).answered(0, 31_326),
+        done("get_budget", Call::GetBudget, timing(silent(), &[BENCH])).answered(0, 31_326),
     ]
 }
 

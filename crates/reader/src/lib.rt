@@ -9,7 +9,7 @@ ghost use Rattle.reader.specs.Events.{event_at, place_after, event_number};
 pub use events::{event_at, place_after};
 
 // A call with its code and arguments, a reply with its failure code and six data bytes, a record that is neither, the end, or fewer than eight
-// bytes (answer 14). The data bytes stand one by one, since no enum holds an array today.
+// bytes (answer 14). The data bytes stand one by one.
 #[derive(Clone, Copy)]
 pub enum Event {
     Call(u8, u32, u16),

@@ -3,7 +3,7 @@
 use Rattle.std.specs.Prelude.{Bool, true, false, not, ◌||◌, cond, [], ◌∷◌, ℕ, ◌+◌, ◌*◌, ◌-◌, ◌%◌, ◌/◌, ◌^◌, eqb, ltb, get_or}
 use Rattle.std.specs.Int.Bits.{bit_and}
 use Rattle.session.specs.Bus.{Answer}
-use Rattle.session.specs.Registers.{SYSRANGE_START, WHO_AM_I, SYSTEM_SEQUENCE_CONFIG, FINAL_RANGE_CONFIG_MIN_COUNT_RATE_RTN_LIMIT, SYSTEM_INTERRUPT_CONFIG_GPIO, GPIO_HV_MUX_ACTIVE_HIGH, SYSTEM_INTERRUPT_CLEAR, RESULT_INTERRUPT_STATUS, RESULT_RANGE_STATUS_plus_10, OSC_CALIBRATE_VAL, SYSTEM_INTERMEASUREMENT_PERIOD, FINAL_RANGE_CONFIG_VCSEL_PERIOD, PRE_RANGE_CONFIG_VCSEL_PERIOD, PRE_RANGE_CONFIG_TIMEOUT_MACROP_HI, FINAL_RANGE_CONFIG_TIMEOUT_MACROP_HI, MSRC_CONFIG_TIMEOUT_MACROP, I2_c_SLAVE_DEVICE_ADDRESS, SYSTEM_THRESH_HIGH, SYSTEM_THRESH_LOW}
+use Rattle.session.specs.Registers.{SYSRANGE_START, WHO_AM_I, SYSTEM_SEQUENCE_CONFIG, FINAL_RANGE_CONFIG_MIN_COUNT_RATE_RTN_LIMIT, SYSTEM_INTERRUPT_CONFIG_GPIO, GPIO_HV_MUX_ACTIVE_HIGH, SYSTEM_INTERRUPT_CLEAR, RESULT_INTERRUPT_STATUS, RESULT_RANGE_STATUS_plus_10, OSC_CALIBRATE_VAL, SYSTEM_INTERMEASUREMENT_PERIOD, FINAL_RANGE_CONFIG_VCSEL_PERIOD, PRE_RANGE_CONFIG_VCSEL_PERIOD, PRE_RANGE_CONFIG_TIMEOUT_MACROP_HI, FINAL_RANGE_CONFIG_TIMEOUT_MACROP_HI, MSRC_CONFIG_TIMEOUT_MACROP, I2C_SLAVE_DEVICE_ADDRESS, SYSTEM_THRESH_HIGH, SYSTEM_THRESH_LOW}
 use Rattle.session.specs.RustFn.{Result, ok, err, Fn, ◌>>=◌, ◌>>◌, Ok, Err, try, hand, if, self, set_self_address, set_self_budget, com_write, read_register, read_16bit, write_byte, write_16bit, write_32bit, while_idle}
 use Rattle.session.specs.RustClocks.{or_u8, and_u8, no_interrupt, start_bit, threshold_raw, threshold_mm, limit_contained, limit_word, multiply_period, decode_timeout, encode_timeout, decode_vcsel_period, timeout_mclks_to_microseconds, timeout_microseconds_to_mclks, subtract_if, add_if, plus_one}
 
@@ -17,7 +17,7 @@ set_address new_address =
     if (ltb new_address 0x08 || ltb 0x77 new_address)
     (Err (Answer.InvalidAddress new_address))
     (do
-      com_write (I2_c_SLAVE_DEVICE_ADDRESS ∷ new_address ∷ [])
+      com_write (I2C_SLAVE_DEVICE_ADDRESS ∷ new_address ∷ [])
       set_self_address new_address)
 
 -- lib.rs 203: set_signal_rate_limit

@@ -1,7 +1,8 @@
-// lib.rs: the fields of VL53L0x that a call can change. What is known of a sensor that is up: its address, its stop byte and its stored budget in
-// microseconds. All zero while it is not up.
+// The types that definitions and code share.
 #![tactic(auto)]
 
+// lib.rs: the fields of VL53L0x that a call can change. What is known of a sensor that is up: its address, its stop byte and its stored budget in
+// microseconds. All zero while it is not up.
 #[derive(Clone, Copy)]
 pub struct Driver {
     pub up: bool,

@@ -2,8 +2,8 @@
 use Rattle.std.specs.Prelude.{List, [], ◌∷◌}
 use Rattle.traces.specs.Trace.{Trace}
 
-abbrev pub who_am_i_call : Trace
-who_am_i_call =
+abbrev pub who_am_i : Trace
+who_am_i =
     record {
       before = 1 ∷ 0x29 ∷ 0x3C ∷ 31326 ∷ [];
       steps =
@@ -13,8 +13,8 @@ who_am_i_call =
       after = 1 ∷ 0x29 ∷ 0x3C ∷ 31326 ∷ [];
     }
 
-abbrev pub set_address_call : Trace
-set_address_call =
+abbrev pub set_address : Trace
+set_address =
     record {
       before = 1 ∷ 0x29 ∷ 0x3C ∷ 31326 ∷ [];
       steps =
@@ -106,8 +106,8 @@ start_longest =
       after = 1 ∷ 0x29 ∷ 0x3C ∷ 31326 ∷ [];
     }
 
-abbrev pub stop_continuous_call : Trace
-stop_continuous_call =
+abbrev pub stop_continuous : Trace
+stop_continuous =
     record {
       before = 1 ∷ 0x29 ∷ 0x3C ∷ 31326 ∷ [];
       steps =
@@ -136,8 +136,8 @@ read_range =
       after = 1 ∷ 0x29 ∷ 0x3C ∷ 31326 ∷ [];
     }
 
-abbrev pub read_range_continuous_call : Trace
-read_range_continuous_call =
+abbrev pub read_range_continuous : Trace
+read_range_continuous =
     record {
       before = 1 ∷ 0x29 ∷ 0x3C ∷ 31326 ∷ [];
       steps =
@@ -152,8 +152,8 @@ read_range_continuous_call =
       after = 1 ∷ 0x29 ∷ 0x3C ∷ 31326 ∷ [];
     }
 
-abbrev pub read_range_single_call : Trace
-read_range_single_call =
+abbrev pub read_range_single : Trace
+read_range_single =
     record {
       before = 1 ∷ 0x29 ∷ 0x3C ∷ 31326 ∷ [];
       steps =
@@ -180,4 +180,4 @@ read_range_single_call =
     }
 
 abbrev pub measuring : List Trace
-measuring = who_am_i_call ∷ set_address_call ∷ start_back_to_back ∷ start_timed ∷ start_uncalibrated ∷ start_longest ∷ stop_continuous_call ∷ read_range ∷ read_range_continuous_call ∷ read_range_single_call ∷ []
+measuring = who_am_i ∷ set_address ∷ start_back_to_back ∷ start_timed ∷ start_uncalibrated ∷ start_longest ∷ stop_continuous ∷ read_range ∷ read_range_continuous ∷ read_range_single ∷ []

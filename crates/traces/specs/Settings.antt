@@ -2,8 +2,8 @@
 use Rattle.std.specs.Prelude.{List, [], ◌∷◌}
 use Rattle.traces.specs.Trace.{Trace}
 
-abbrev pub set_budget_call : Trace
-set_budget_call =
+abbrev pub set_budget : Trace
+set_budget =
     record {
       before = 1 ∷ 0x29 ∷ 0x3C ∷ 31326 ∷ [];
       steps =
@@ -19,8 +19,8 @@ set_budget_call =
       after = 1 ∷ 0x29 ∷ 0x3C ∷ 33000 ∷ [];
     }
 
-abbrev pub set_thresholds_call : Trace
-set_thresholds_call =
+abbrev pub set_thresholds : Trace
+set_thresholds =
     record {
       before = 1 ∷ 0x29 ∷ 0x3C ∷ 31326 ∷ [];
       steps =
@@ -31,8 +31,8 @@ set_thresholds_call =
       after = 1 ∷ 0x29 ∷ 0x3C ∷ 31326 ∷ [];
     }
 
-abbrev pub get_thresholds_call : Trace
-get_thresholds_call =
+abbrev pub get_thresholds : Trace
+get_thresholds =
     record {
       before = 1 ∷ 0x29 ∷ 0x3C ∷ 31326 ∷ [];
       steps =
@@ -163,8 +163,8 @@ out_of_window_high =
       after = 1 ∷ 0x29 ∷ 0x3C ∷ 31326 ∷ [];
     }
 
-abbrev pub clear_interrupt_status_call : Trace
-clear_interrupt_status_call =
+abbrev pub clear_interrupt_status : Trace
+clear_interrupt_status =
     record {
       before = 1 ∷ 0x29 ∷ 0x3C ∷ 31326 ∷ [];
       steps =
@@ -208,8 +208,8 @@ negative_zero_rate =
       after = 1 ∷ 0x29 ∷ 0x3C ∷ 31326 ∷ [];
     }
 
-abbrev pub get_budget_call : Trace
-get_budget_call =
+abbrev pub get_budget : Trace
+get_budget =
     record {
       before = 1 ∷ 0x29 ∷ 0x3C ∷ 31326 ∷ [];
       steps =
@@ -225,4 +225,4 @@ get_budget_call =
     }
 
 abbrev pub settings : List Trace
-settings = set_budget_call ∷ set_thresholds_call ∷ get_thresholds_call ∷ new_sample_low ∷ new_sample_high ∷ level_low_low ∷ level_low_high ∷ level_high_low ∷ level_high_high ∷ out_of_window_low ∷ out_of_window_high ∷ clear_interrupt_status_call ∷ highest_rate ∷ quarter_rate ∷ negative_zero_rate ∷ get_budget_call ∷ []
+settings = set_budget ∷ set_thresholds ∷ get_thresholds ∷ new_sample_low ∷ new_sample_high ∷ level_low_low ∷ level_low_high ∷ level_high_low ∷ level_high_high ∷ out_of_window_low ∷ out_of_window_high ∷ clear_interrupt_status ∷ highest_rate ∷ quarter_rate ∷ negative_zero_rate ∷ get_budget ∷ []

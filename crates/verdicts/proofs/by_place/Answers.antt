@@ -1,4 +1,4 @@
--- `verdicts::by_place_lem` meets its contract.
+-- `verdicts::by_place` meets its contract.
 use borrow.Author.Rules.{rules}
 use Rattle.steps.specs.Steps.{settled}
 use Rattle.verdicts.proofs.by_place.Goals as goal

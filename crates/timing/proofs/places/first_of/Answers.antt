@@ -1,4 +1,4 @@
--- `timing::places::first_match` meets its contract. The invariant: the first place of what is left is that of the whole; the measure is what is left.
+-- `timing::places::first_of` meets its contract. The invariant: the first place of what is left is that of the whole; the measure is what is left.
 use mathlib.Core.Path.{◌≡◌, refl, sym, ◌∙◌}
 use mathlib.Core.List.{List}
 use Prim.Native.Nat.{ℕ, ◌+◌, ◌≤◌, ◌<◌}
