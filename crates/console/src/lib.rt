@@ -1,7 +1,7 @@
 // Standard input to standard output: records in, lines out, block by block.
 #![tactic(auto)]
 
-ghost use Rattle.std.specs.Prelude.{◌≤◌, length, IfOk};
+ghost use Rattle.std.specs.Prelude.{◌≤◌, length};
 
 use blocks::Show;
 use session::Session;
@@ -15,18 +15,20 @@ struct Printed {
     more: bool,
 }
 
-// A pipe gives its bytes in pieces of any length: only the end of the input leaves a block short.
-fn read_full<R: Read>(reader: &mut R, block: &mut [u8]) -> io::Result<usize>
-    ensures { IfOk result (λ n. n ≤ length block.new) }
+// A pipe gives its bytes in pieces of any length: only the end of the input, or a failure, leaves a block short.
+// `count` is how many bytes were read, also where reading fails.
+fn read_full<R: Read>(reader: &mut R, block: &mut [u8], count: &mut usize) -> io::Result<()>
+    ensures { count.new ≤ length block.new }
 {
-    let mut done = 0;
+    *count = 0;
     for _ in 0..u64::MAX {
+        let done = *count;
         if done == block.len() {
             break;
         }
         match reader.read(&mut block[done..]) {
             Ok(0) => break,
-            Ok(n) => done += n,
+            Ok(n) => *count = done + n,
             Err(e) => {
                 // A signal came before any byte did.
                 if e.kind() != ErrorKind::Interrupted {
@@ -35,7 +37,7 @@ fn read_full<R: Read>(reader: &mut R, block: &mut [u8]) -> io::Result<usize>
             }
         }
     }
-    Ok(done)
+    Ok(())
 }
 
 // Spare bytes at the end are answer 14. They are no record, so that no fields follow them.
@@ -46,7 +48,7 @@ fn spare<W: Write>(writer: &mut W, show: Show) -> io::Result<()> {
     }
 }
 
-// A short block is the last.
+// A short block is the last. Where reading fails, the records that came before are printed first.
 fn print_block<R: Read, W: Write>(
     reader: &mut R,
     writer: &mut W,
@@ -55,11 +57,13 @@ fn print_block<R: Read, W: Write>(
     block: &mut [u8],
     text: &mut [u8],
 ) -> io::Result<Printed> {
-    let n = read_full(reader, block)?;
+    let mut n = 0;
+    let read = read_full(reader, block, &mut n);
     let p = blocks::print(show, s, &block[..n], text);
     let count = p.count;
     let session = p.session;
     writer.write_all(&text[..count])?;
+    read?;
     if n % 8 != 0 {
         spare(writer, show)?;
     }

@@ -1,6 +1,6 @@
--- What is done is within the block.
+-- What is counted is within the block.
 use Rattle.std.proofs.Common.{◌≤◌, length}
 use Rattle.console.proofs.read_full.Given as goal
 
 abbrev pub invariant-loop : goal.invariant-loop
-invariant-loop g l = l.done ≤ length l.block
+invariant-loop g l = l.count ≤ length l.block
