@@ -21,9 +21,5 @@ overflow_add-i c =
 pub loop-i-preserved : goal.loop-i-preserved
 loop-i-preserved c = goes_on _ _ _ _ _ _ _ c.loop-i.invariant (search rules) _ _ (rw c.record_at.ensures at c.print_record-p.ensures)
 
--- GONE same-length
--- same_length : tie.Need-same-length invariant-loop decreases-loop
--- same_length c = c.before.loop.invariant.size
-
 pub returns : goal.returns
 returns c = going_ends _ _ _ _ _ _ _ c.loop-i.invariant (search rules)

@@ -25,10 +25,6 @@ loop-i-preserved c =
     let h : i < length part = omega arith in
     (omega arith, omega arith, omega arith, rw (add-one i, take-suc part i 0 h) (then c.loop-i.invariant.3 c.put_byte-next.ensures))
 
--- GONE same-length
--- same_length : tie.Need-same-length invariant-loop decreases-loop
--- same_length c = c.before.loop.invariant.2
-
 pub returns : goal.returns
 returns c =
     let part = c.args.part.now in
