@@ -40,6 +40,21 @@ pub struct Transfer {
     pub reads: u8,
 }
 
+// A call as a record gives it: its code and the arguments A and B.
+#[derive(Clone, Copy)]
+pub struct CallRecord {
+    pub code: u8,
+    pub a: u32,
+    pub b: u16,
+}
+
+// A reply of the bus as a record gives it: the failure code or 0, and six data bytes.
+#[derive(Clone, Copy)]
+pub struct ReplyRecord {
+    pub failure: u8,
+    pub data: [u8; 6],
+}
+
 // 01's numbered answers, 0 to 15, in the names of lib.rs's Error where it has one. The first nine end a call, the others refuse a record or a list.
 #[derive(Clone, Copy)]
 pub enum Answer {
