@@ -1,16 +1,12 @@
 -- 01, "Clock arithmetic", in its order.
 -- Where the Rust, built with overflow checks, panics, the answer is the place that 01 gives to that arithmetic.
-use Rattle.std.specs.Prelude.{ℕ, zero, suc, ◌+◌, ◌-◌, ◌*◌, ◌/◌, ◌%◌, ◌^◌, cond, ◌==◌, nat_le, nat_lt}
+use Rattle.std.specs.Prelude.{ℕ, zero, suc, ◌+◌, ◌-◌, ◌*◌, ◌/◌, ◌%◌, ◌^◌, cond, ◌==◌, nat_le, nat_lt, Result, Ok, Err}
 use Rattle.clock.specs.declared.Mclks.{Mclks}
 use Rattle.clock.specs.declared.WideMclks.{WideMclks}
 use Rattle.clock.specs.declared.Pclks.{Pclks}
 use Rattle.clock.specs.declared.Microseconds.{Microseconds}
 use Rattle.clock.specs.declared.Nanoseconds.{Nanoseconds}
-use Rattle.clock.specs.declared.MclksOr.{MclksOr}
-use Rattle.clock.specs.declared.WideMclksOr.{WideMclksOr}
-use Rattle.clock.specs.declared.PclksOr.{PclksOr}
-use Rattle.clock.specs.declared.VcselByteOr.{VcselByteOr}
-use Rattle.clock.specs.declared.MicrosecondsOr.{MicrosecondsOr}
+use Rattle.clock.specs.declared.Place.{Place}
 
 -- x << k in w bits. 01: "Bits that leave the top of a byte or word are dropped."
 abbrev pub shifted : ℕ → ℕ → ℕ → ℕ
@@ -22,10 +18,10 @@ doubled_in w x zero = x
 doubled_in w x (suc k) = (doubled_in w x k + doubled_in w x k) % 2 ^ w
 
 -- 01: "low byte shifted left by the high byte, plus 1. High byte 16 or more: place 2." lib.rs: decode_timeout
-unfoldable pub decoded_timeout : ℕ → MclksOr
+unfoldable pub decoded_timeout : ℕ → Result Mclks Place
 decoded_timeout w =
-    cond (nat_le 16 (w / 256)) (MclksOr.Place 2)
-    (MclksOr.Value (record { 0 = shifted 16 (w % 256) (w / 256) + 1 }))
+    cond (nat_le 16 (w / 256)) (Err Place.TimeoutShift)
+    (Ok (record { 0 = shifted 16 (w % 256) (w / 256) + 1 }))
 
 -- n halved until it is at most 255, at most f times: exponent × 256 + what is left
 unfoldable pub halved_in : ℕ → ℕ → ℕ
@@ -42,12 +38,12 @@ unfoldable pub encoded_timeout : Mclks → ℕ
 encoded_timeout t = cond (t.0 == 0) 0 (halved (t.0 - 1))
 
 -- 01: "(r + 1) doubled in a byte; r = 255: place 4." lib.rs: decode_vcsel_period
-unfoldable pub decoded_vcsel_period : ℕ → PclksOr
-decoded_vcsel_period r = cond (r == 255) (PclksOr.Place 4) (PclksOr.Value (record { 0 = shifted 8 (r + 1) 1 }))
+unfoldable pub decoded_vcsel_period : ℕ → Result Pclks Place
+decoded_vcsel_period r = cond (r == 255) (Err Place.VcselPeriod) (Ok (record { 0 = shifted 8 (r + 1) 1 }))
 
 -- 01: "half, minus 1; periods 0 and 1: place 4." lib.rs: encode_vcsel_period
-unfoldable pub encoded_vcsel_period : Pclks → VcselByteOr
-encoded_vcsel_period p = cond (nat_le p.0 1) (VcselByteOr.Place 4) (VcselByteOr.Value (p.0 / 2 - 1))
+unfoldable pub encoded_vcsel_period : Pclks → Result ℕ Place
+encoded_vcsel_period p = cond (nat_le p.0 1) (Err Place.VcselPeriod) (Ok (p.0 / 2 - 1))
 
 -- 01: "(2304 × period × 1655 + 500) / 1000, cut." lib.rs: calc_macro_period
 abbrev pub macro_period : Pclks → Nanoseconds
@@ -55,24 +51,24 @@ macro_period p = record { 0 = (2304 * p.0 * 1655 + 500) / 1000 }
 
 -- 01: "(clocks × macro + macro / 2) / 1000", and "A sum or product above 4,294,967,295: place 6".
 -- The product is at most the sum, so one test serves both.
-unfoldable pub microseconds_of : Mclks → Nanoseconds → MicrosecondsOr
+unfoldable pub microseconds_of : Mclks → Nanoseconds → Result Microseconds Place
 microseconds_of t ns =
     let sum = t.0 * ns.0 + ns.0 / 2 in
-    cond (nat_lt 4294967295 sum) (MicrosecondsOr.Place 6) (MicrosecondsOr.Value (record { 0 = sum / 1000 }))
+    cond (nat_lt 4294967295 sum) (Err Place.ToMicroseconds) (Ok (record { 0 = sum / 1000 }))
 
 -- lib.rs: timeout_mclks_to_microseconds
-abbrev pub mclks_to_microseconds : Mclks → Pclks → MicrosecondsOr
+abbrev pub mclks_to_microseconds : Mclks → Pclks → Result Microseconds Place
 mclks_to_microseconds t p = microseconds_of t (macro_period p)
 
 -- 01: "(µs × 1000 + macro / 2) / macro", "place 7 to clocks; macro 0 to clocks: place 8, after 7"
-unfoldable pub mclks_of : Microseconds → Nanoseconds → WideMclksOr
+unfoldable pub mclks_of : Microseconds → Nanoseconds → Result WideMclks Place
 mclks_of t ns =
     let sum = t.0 * 1000 + ns.0 / 2 in
-    cond (nat_lt 4294967295 sum) (WideMclksOr.Place 7)
-    (cond (ns.0 == 0) (WideMclksOr.Place 8) (WideMclksOr.Value (record { 0 = sum / ns.0 })))
+    cond (nat_lt 4294967295 sum) (Err Place.ToMclks)
+    (cond (ns.0 == 0) (Err Place.NoMacroPeriod) (Ok (record { 0 = sum / ns.0 })))
 
 -- lib.rs: timeout_microseconds_to_mclks
-abbrev pub microseconds_to_mclks : Microseconds → Pclks → WideMclksOr
+abbrev pub microseconds_to_mclks : Microseconds → Pclks → Result WideMclks Place
 microseconds_to_mclks t p = mclks_of t (macro_period p)
 
 -- 01: "Clocks are cut to 16 bits". lib.rs: the `as u16` of set_measurement_timing_budget

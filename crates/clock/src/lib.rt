@@ -3,6 +3,7 @@
 #![tactic(auto)]
 
 ghost use Rattle.std.specs.Prelude.{◌≡◌, ◌+◌, ◌%◌, ◌^◌};
+ghost use Rattle.clock.specs.Places.{place_number};
 ghost use Rattle.clock.specs.Clock.{shifted, decoded_timeout, halved, encoded_timeout};
 ghost use Rattle.clock.specs.Clock.{decoded_vcsel_period, encoded_vcsel_period, macro_period};
 ghost use Rattle.clock.specs.Clock.{mclks_to_microseconds, microseconds_to_mclks, cut_mclks};
@@ -25,66 +26,57 @@ pub struct Microseconds(pub u32);
 #[derive(Clone, Copy)]
 pub struct Nanoseconds(pub u32);
 
-// Each answer is the value, or the place of the arithmetic at which the Rust panics.
-#[derive(Clone, Copy)]
-pub enum MclksOr {
-    Value(Mclks),
-    Place(u8),
+// A place of the arithmetic at which the Rust panics, by its number.
+#[derive(Clone, Copy, Debug, PartialEq, Eq)]
+pub enum Place {
+    // A period times the oscillator's word.
+    TimedPeriod = 1,
+    // The shift of a timeout.
+    TimeoutShift = 2,
+    // The final range's clocks less pre-range's.
+    FinalBelowPre = 3,
+    // A period from its register, and back.
+    VcselPeriod = 4,
+    // The register of the MSRC timeout and 1.
+    MsrcTimeout = 5,
+    ToMicroseconds = 6,
+    ToMclks = 7,
+    // A division by no macro period.
+    NoMacroPeriod = 8,
+    // The final range's clocks and pre-range's.
+    FinalTimeout = 9,
 }
 
-#[derive(Clone, Copy)]
-pub enum WideMclksOr {
-    Value(WideMclks),
-    Place(u8),
+impl From<Place> for u8 {
+    ghost from_gives = { λ place n. n ≡ place_number place };
+
+    fn from(place: Place) -> u8 {
+        place as u8
+    }
 }
 
-#[derive(Clone, Copy)]
-pub enum PclksOr {
-    Value(Pclks),
-    Place(u8),
-}
-
-#[derive(Clone, Copy)]
-pub enum VcselByteOr {
-    Value(u8),
-    Place(u8),
-}
-
-#[derive(Clone, Copy)]
-pub enum MicrosecondsOr {
-    Value(Microseconds),
-    Place(u8),
-}
-
-// v doubled in 16 bits: a bit that leaves the top is dropped.
-fn twice(v: u16) -> u16
-    ensures { result ≡ (v + v) % 2 ^ 16 }
-{
-    std::num::wrapping_add_u16(v, v)
-}
-
-// x doubled `times` times.
+// x doubled `times` times in 16 bits: a bit that leaves the top is dropped.
+#[tactic(auto, using(crate::proofs::Doubling::doubling_shifts), unfolding(crate::specs::Clock::doubled_in))]
 fn doubled(x: u16, times: u16) -> u16
     ensures { result ≡ shifted 16 x times }
 {
     let mut v = x;
-    let mut i = 0;
-    while i < times {
-        v = twice(v);
-        i += 1;
+    for _ in 0..times {
+        v = v.wrapping_add(v);
     }
     v
 }
 
 // (low byte << high byte) + 1.
-pub fn decode_timeout(register_value: u16) -> MclksOr
+#[tactic(auto, unfolding(crate::specs::Clock::decoded_timeout))]
+pub fn decode_timeout(register_value: u16) -> Result<Mclks, Place>
     ensures { result ≡ decoded_timeout register_value }
 {
     let times = register_value / 256;
     if 16 <= times {
-        MclksOr::Place(2)
+        Err(Place::TimeoutShift)
     } else {
-        MclksOr::Value(Mclks(doubled(register_value % 256, times) + 1))
+        Ok(Mclks(doubled(register_value % 256, times) + 1))
     }
 }
 
@@ -95,6 +87,7 @@ fn halve(n: u16) -> u16
     if n <= 255 { n } else { 256 + halve(n / 2) }
 }
 
+#[tactic(auto, unfolding(crate::specs::Clock::encoded_timeout))]
 pub fn encode_timeout(timeout: Mclks) -> u16
     ensures { result ≡ encoded_timeout timeout }
 {
@@ -103,26 +96,28 @@ pub fn encode_timeout(timeout: Mclks) -> u16
 }
 
 // ((register value + 1) << 1) in a byte.
-pub fn decode_vcsel_period(register_value: u8) -> PclksOr
+#[tactic(auto, unfolding(crate::specs::Clock::decoded_vcsel_period))]
+pub fn decode_vcsel_period(register_value: u8) -> Result<Pclks, Place>
     ensures { result ≡ decoded_vcsel_period register_value }
 {
     if register_value == 255 {
-        PclksOr::Place(4)
+        Err(Place::VcselPeriod)
     } else {
         let p = register_value + 1;
-        PclksOr::Value(Pclks(std::num::wrapping_add_u8(p, p)))
+        Ok(Pclks(p.wrapping_add(p)))
     }
 }
 
 // (period >> 1) - 1.
-pub fn encode_vcsel_period(period: Pclks) -> VcselByteOr
+#[tactic(auto, unfolding(crate::specs::Clock::encoded_vcsel_period))]
+pub fn encode_vcsel_period(period: Pclks) -> Result<u8, Place>
     ensures { result ≡ encoded_vcsel_period period }
 {
     let p = period.0;
     if p <= 1 {
-        VcselByteOr::Place(4)
+        Err(Place::VcselPeriod)
     } else {
-        VcselByteOr::Value(p / 2 - 1)
+        Ok(p / 2 - 1)
     }
 }
 
@@ -133,30 +128,35 @@ pub fn calc_macro_period(period: Pclks) -> Nanoseconds
 }
 
 // The sum is made in 64 bits, where it always fits, and held against 32.
-pub fn timeout_mclks_to_microseconds(timeout: Mclks, period: Pclks) -> MicrosecondsOr
+#[tactic(auto, unfolding(crate::specs::Clock::microseconds_of))]
+pub fn timeout_mclks_to_microseconds(timeout: Mclks, period: Pclks) -> Result<Microseconds, Place>
     ensures { result ≡ mclks_to_microseconds timeout period }
 {
     let ns = calc_macro_period(period).0 as u64;
     let sum = (timeout.0 as u64) * ns + ns / 2;
     if 4294967295 < sum {
-        MicrosecondsOr::Place(6)
+        Err(Place::ToMicroseconds)
     } else {
-        MicrosecondsOr::Value(Microseconds((sum / 1000) as u32))
+        Ok(Microseconds((sum / 1000) as u32))
     }
 }
 
-pub fn timeout_microseconds_to_mclks(timeout: Microseconds, period: Pclks) -> WideMclksOr
+#[tactic(auto, unfolding(crate::specs::Clock::mclks_of))]
+pub fn timeout_microseconds_to_mclks(
+    timeout: Microseconds,
+    period: Pclks,
+) -> Result<WideMclks, Place>
     ensures { result ≡ microseconds_to_mclks timeout period }
 {
     let ns = calc_macro_period(period).0 as u64;
     let scaled = (timeout.0 as u64) * 1000 + ns / 2;
     if 4294967295 < scaled {
-        return WideMclksOr::Place(7);
+        return Err(Place::ToMclks);
     }
     if ns == 0 {
-        return WideMclksOr::Place(8);
+        return Err(Place::NoMacroPeriod);
     }
-    WideMclksOr::Value(WideMclks((scaled / ns) as u32))
+    Ok(WideMclks((scaled / ns) as u32))
 }
 
 // Clocks cut to 16 bits.

@@ -1,61 +1,48 @@
 -- A place that the first replies have found stays the first place when more replies are known: the places are listed by the reply that they wait for.
-use mathlib.Core.Path.{◌≡◌, refl, ap, ◌∙◌}
-use mathlib.Core.Bool.{Bool, true, false, cond}
-use mathlib.Core.List.{List, [], ◌∷◌}
-use Prim.Native.Nat.{ℕ, ◌≤◌, ◌<◌}
-use native.Mathlib.Omega.{arith}
-use borrow.Author.Tests.{leb-true, leb-false, le-leb, lt-leb}
-use lib.Dec.{leb, eqb, lit≤}
+use Rattle.std.proofs.Common.{◌≡◌, refl, sym, ap, ◌∙◌, Bool, true, false, true≢false, List, [], ◌∷◌, ℕ, ◌≤◌, ◌<◌, leb, arith, lit≤, leb-true, leb-false, le-leb, Option, None, Some, is_some}
+use borrow.Author.Tests.{lt-leb}
+use Rattle.clock.specs.declared.Place.{Place}
 use Rattle.timing.specs.declared.TimingRegisters.{TimingRegisters}
-use Rattle.timing.specs.declared.PlaceOr.{PlaceOr}
-use Rattle.timing.specs.Places.{Entry, entries_of, seen, first_match, place_or, first_place}
+use Rattle.timing.specs.declared.Entry.{Entry}
+use Rattle.timing.specs.Places.{entries_of, seen, or_next, first_match, first_place}
 
 -- no entry needs fewer replies than one before it
 abbrev Rising : ℕ → List Entry → Type 0
 Rising n [] = Unit {0}
 Rising n (e ∷ es) = (n ≤ e.needs) × Rising e.needs es
 
-none_known : (k n : ℕ) (es : List Entry) → k < n → Rising n es → first_match (seen k es) ≡ 0
+none_known : (k n : ℕ) (es : List Entry) → k < n → Rising n es → first_match (seen k es) ≡ None
 unfolding first_match
 none_known k n [] h r = refl
 none_known k n (e ∷ es) h r =
     let l : k < e.needs = omega (arith, r.0) in
     rw (lt-leb e.needs k l) (none_known k e.needs es l r.1)
 
-stays :
-    (k j n : ℕ) (es : List Entry) → k ≤ j → Rising n es → (first_match (seen k es) ≡ 0 → ⊥) → first_match (seen j es) ≡ first_match (seen k es)
+stays : (k j n : ℕ) (es : List Entry) (p : Place) → k ≤ j → Rising n es → first_match (seen k es) ≡ Some p → first_match (seen j es) ≡ Some p
 unfolding first_match
-stays k j n [] h r f = refl
-stays k j n (e ∷ es) h r f = at_entry (stays k j e.needs es h r.1) (leb e.needs k) refl
+stays k j n [] p h r f = f
+stays k j n (e ∷ es) p h r f = at_entry (stays k j e.needs es p h r.1) (leb e.needs k) refl
   where
-    by_place_lem :
-        ((first_match (seen k es) ≡ 0 → ⊥) → first_match (seen j es) ≡ first_match (seen k es))
-        → (b : Bool)
-        → (cond b (first_match (seen k es)) e.place ≡ 0 → ⊥)
-        → cond b (first_match (seen j es)) e.place ≡ cond b (first_match (seen k es)) e.place
-    by_place_lem later true g = later g
-    by_place_lem later false g = refl
+    by_place : (first_match (seen k es) ≡ Some p → first_match (seen j es) ≡ Some p) → (x : Option Place) → or_next x (first_match (seen k es)) ≡ Some p → or_next x (first_match (seen j es)) ≡ Some p
+    by_place later None g = later g
+    by_place later (Some q) g = g
 
     at_entry :
-        ((first_match (seen k es) ≡ 0 → ⊥) → first_match (seen j es) ≡ first_match (seen k es))
+        (first_match (seen k es) ≡ Some p → first_match (seen j es) ≡ Some p)
         → (b : Bool)
         → leb e.needs k ≡ b
-        → first_match (seen j (e ∷ es)) ≡ first_match (seen k (e ∷ es))
+        → first_match (seen j (e ∷ es)) ≡ Some p
     at_entry later true q =
-        let p : leb e.needs j ≡ true = le-leb e.needs j (omega (arith, leb-true e.needs k q)) in
-        rw (p, q) (by_place_lem later (eqb e.place 0) (rw q at f))
-    at_entry later false q = absurd (f (rw q (none_known k e.needs es (leb-false e.needs k q) r.1)))
+        let known : leb e.needs j ≡ true = le-leb e.needs j (omega (arith, leb-true e.needs k q)) in
+        rw known (by_place later e.place (rw q at f))
+    at_entry later false q =
+        let none : first_match (seen k es) ≡ Some p = rw q at f in
+        absurd (true≢false (sym (ap is_some (sym (none_known k e.needs es (leb-false e.needs k q) r.1) ∙ none))))
 
 rising : (r : TimingRegisters) → Rising 0 (entries_of r)
 unfolding entries_of
 rising r = (lit≤ tt, (lit≤ tt, (lit≤ tt, (lit≤ tt, (lit≤ tt, (lit≤ tt, (lit≤ tt, (lit≤ tt, (lit≤ tt, tt)))))))))
 
-pub first_place_stays : (r : TimingRegisters) (k j p : ℕ) → k ≤ j → first_place r k ≡ PlaceOr.Place p → first_place r j ≡ PlaceOr.Place p
+pub first_place_stays : (r : TimingRegisters) (k j : ℕ) (p : Place) → k ≤ j → first_place r k ≡ Some p → first_place r j ≡ Some p
 unfolding first_place
-first_place_stays r k j p h e = ap place_or (stays k j 0 (entries_of r) h (rising r) found) ∙ e
-  where
-    found : first_match (seen k (entries_of r)) ≡ 0 → ⊥
-    found z =
-        let c : place_or 0 ≡ PlaceOr.Place p = rw z at e in
-        let w : ◌≡◌ {A = ℕ} 0 1 = cc in
-        omega arith
+first_place_stays r k j p h e = stays k j 0 (entries_of r) p h (rising r) e

@@ -1,51 +1,33 @@
 -- The first place of the six budget replies in the Rust's order, also of the first few of them:
 -- a session that waits for the next reply looks again at all that it knows.
-use Rattle.std.specs.Prelude.{Bool, cond, List, [], ◌∷◌, ℕ, ◌+◌, leb, ltb, eqb}
-use Rattle.clock.specs.declared.MclksOr.{MclksOr}
-use Rattle.clock.specs.declared.PclksOr.{PclksOr}
-use Rattle.clock.specs.declared.MicrosecondsOr.{MicrosecondsOr}
+use Rattle.std.specs.Prelude.{◌&&◌, cond, List, [], ◌∷◌, ℕ, ◌+◌, leb, ltb, Option, None, Some}
+use Rattle.std.specs.Result.{result_err}
+use Rattle.clock.specs.declared.Place.{Place}
 use Rattle.clock.specs.Clock.{decoded_timeout, decoded_vcsel_period}
 use Rattle.timing.specs.declared.TimingRegisters.{TimingRegisters}
-use Rattle.timing.specs.declared.PlaceOr.{PlaceOr}
-use Rattle.timing.specs.Registers.{sequence_step_enables, when_on}
+use Rattle.timing.specs.declared.Entry.{Entry}
+use Rattle.timing.specs.Registers.{sequence_step_enables}
 use Rattle.timing.specs.Timeouts.{timeout_clocks, msrc_time, pre_time, final_time}
 
--- the place of an answer, or 0
-abbrev pub mclks_place : MclksOr → ℕ
-mclks_place (MclksOr.Value m) = 0
-mclks_place (MclksOr.Place p) = p
+unfoldable pub timeout_place : ℕ → Option Place
+timeout_place word = result_err (decoded_timeout word)
 
-abbrev pub pclks_place : PclksOr → ℕ
-pclks_place (PclksOr.Value p) = 0
-pclks_place (PclksOr.Place p) = p
-
-abbrev pub time_place : MicrosecondsOr → ℕ
-time_place (MicrosecondsOr.Value t) = 0
-time_place (MicrosecondsOr.Place p) = p
-
-unfoldable pub timeout_place : ℕ → ℕ
-timeout_place word = mclks_place (decoded_timeout word)
-
-unfoldable pub period_place : ℕ → ℕ
-period_place byte = pclks_place (decoded_vcsel_period byte)
+unfoldable pub period_place : ℕ → Option Place
+period_place byte = result_err (decoded_vcsel_period byte)
 
 -- 01: "Final less than pre while pre-range is on: place 3"
-abbrev pub when_less : Bool → ℕ → ℕ → ℕ
-when_less on whole pre = when_on on (cond (ltb whole pre) 3 0)
-
-unfoldable pub less_place : TimingRegisters → ℕ
-less_place r = when_less (sequence_step_enables r.sequence).prerange (timeout_clocks r.finaltimeout).0 (timeout_clocks r.pretimeout).0
+unfoldable pub less_place : TimingRegisters → Option Place
+less_place r =
+    cond
+    ((sequence_step_enables r.sequence).prerange && ltb (timeout_clocks r.finaltimeout).0 (timeout_clocks r.pretimeout).0)
+    (Some Place.FinalBelowPre)
+    None
 
 -- 01: "0x46 plus 1 over 255: place 5"
-abbrev pub msrc_place : ℕ → ℕ
-msrc_place byte = cond (ltb 255 (byte + 1)) 5 0
+abbrev pub msrc_place : ℕ → Option Place
+msrc_place byte = cond (ltb 255 (byte + 1)) (Some Place.MsrcTimeout) None
 
--- a place, 0 where nothing panics, and how many of the replies it needs
-pub record Entry : Type 0 where
-  pub needs : ℕ
-  pub place : ℕ
-
-abbrev pub entry : ℕ → ℕ → Entry
+abbrev pub entry : ℕ → Option Place → Entry
 entry n p = record { needs = n; place = p }
 
 -- 01: "Final less than pre [..]: place 3, right after 0x71. 0x46 plus 1 over 255: place 5. Then microseconds for MSRC, pre, final."
@@ -58,28 +40,29 @@ entries_of r =
     ∷ entry 4 (period_place r.preperiod)
     ∷ entry 5 (msrc_place r.msrctimeout)
     ∷ entry 6 (period_place r.finalperiod)
-    ∷ entry 6 (time_place (msrc_time r))
-    ∷ entry 6 (time_place (pre_time r))
-    ∷ entry 6 (time_place (final_time r))
+    ∷ entry 6 (result_err (msrc_time r))
+    ∷ entry 6 (result_err (pre_time r))
+    ∷ entry 6 (result_err (final_time r))
     ∷ []
 
 -- p, once the first n replies are known
-abbrev pub after : ℕ → ℕ → ℕ → ℕ
-after n known p = cond (leb n known) p 0
+abbrev pub after : ℕ → ℕ → Option Place → Option Place
+after n known p = cond (leb n known) p None
 
 -- the places that the first `known` replies show
-abbrev pub seen : ℕ → List Entry → List ℕ
+abbrev pub seen : ℕ → List Entry → List (Option Place)
 seen known [] = []
 seen known (e ∷ es) = after e.needs known e.place ∷ seen known es
 
--- the first that is not 0, or 0
-unfoldable pub first_match : List ℕ → ℕ
-first_match [] = 0
-first_match (p ∷ ps) = cond (eqb p 0) (first_match ps) p
+-- the first that there is
+abbrev pub or_next : Option Place → Option Place → Option Place
+or_next None q = q
+or_next (Some p) q = Some p
 
-abbrev pub place_or : ℕ → PlaceOr
-place_or p = cond (eqb p 0) PlaceOr.Clear (PlaceOr.Place p)
+unfoldable pub first_match : List (Option Place) → Option Place
+first_match [] = None
+first_match (p ∷ ps) = or_next p (first_match ps)
 
 -- the first place once the first `known` replies are known
-unfoldable pub first_place : TimingRegisters → ℕ → PlaceOr
-first_place r known = place_or (first_match (seen known (entries_of r)))
+unfoldable pub first_place : TimingRegisters → ℕ → Option Place
+first_place r known = first_match (seen known (entries_of r))

@@ -1,36 +1,26 @@
 -- lib.rs: get_sequence_step_timeouts, figure by figure.
 -- Where a figure's own arithmetic has a place its value here is 0: nothing uses it, since the place comes first.
-use Rattle.std.specs.Prelude.{ℕ, ◌+◌, ◌-◌}
+use Rattle.std.specs.Prelude.{ℕ, ◌+◌, ◌-◌, Result}
+use Rattle.std.specs.Result.{result_unwrap_or}
 use Rattle.clock.specs.declared.Mclks.{Mclks}
 use Rattle.clock.specs.declared.Pclks.{Pclks}
 use Rattle.clock.specs.declared.Microseconds.{Microseconds}
-use Rattle.clock.specs.declared.MclksOr.{MclksOr}
-use Rattle.clock.specs.declared.PclksOr.{PclksOr}
-use Rattle.clock.specs.declared.MicrosecondsOr.{MicrosecondsOr}
+use Rattle.clock.specs.declared.Place.{Place}
 use Rattle.clock.specs.Clock.{decoded_timeout, decoded_vcsel_period, mclks_to_microseconds}
 use Rattle.timing.specs.declared.TimingRegisters.{TimingRegisters}
 use Rattle.timing.specs.Registers.{sequence_step_enables, when_on}
 
--- the value of an answer, or 0
-abbrev pub mclks_in : MclksOr → Mclks
-mclks_in (MclksOr.Value m) = m
-mclks_in (MclksOr.Place p) = record { 0 = 0 }
-
-abbrev pub pclks_in : PclksOr → Pclks
-pclks_in (PclksOr.Value p) = p
-pclks_in (PclksOr.Place p) = record { 0 = 0 }
-
-abbrev pub time_in : MicrosecondsOr → Microseconds
-time_in (MicrosecondsOr.Value t) = t
-time_in (MicrosecondsOr.Place p) = record { 0 = 0 }
+-- a time, or 0 where its arithmetic has a place
+abbrev pub time_in : Result Microseconds Place → Microseconds
+time_in x = result_unwrap_or x (record { 0 = 0 })
 
 -- the clocks of 0x51 and of 0x71. lib.rs 656, 659
 unfoldable pub timeout_clocks : ℕ → Mclks
-timeout_clocks word = mclks_in (decoded_timeout word)
+timeout_clocks word = result_unwrap_or (decoded_timeout word) (record { 0 = 0 })
 
 -- the pulse clocks of 0x50 and of 0x70. lib.rs 665, 669: get_vcsel_pulse_period
 unfoldable pub period_clocks : ℕ → Pclks
-period_clocks byte = pclks_in (decoded_vcsel_period byte)
+period_clocks byte = result_unwrap_or (decoded_vcsel_period byte) (record { 0 = 0 })
 
 -- what pre-range takes while it is on
 unfoldable pub pre_share : TimingRegisters → Mclks
@@ -45,11 +35,11 @@ unfoldable pub msrc_clocks : TimingRegisters → Mclks
 msrc_clocks r = record { 0 = r.msrctimeout + 1 }
 
 -- the three microsecond figures are computed whatever the sequence byte says; MSRC and pre-range share a period
-unfoldable pub msrc_time : TimingRegisters → MicrosecondsOr
+unfoldable pub msrc_time : TimingRegisters → Result Microseconds Place
 msrc_time r = mclks_to_microseconds (msrc_clocks r) (period_clocks r.preperiod)
 
-unfoldable pub pre_time : TimingRegisters → MicrosecondsOr
+unfoldable pub pre_time : TimingRegisters → Result Microseconds Place
 pre_time r = mclks_to_microseconds (timeout_clocks r.pretimeout) (period_clocks r.preperiod)
 
-unfoldable pub final_time : TimingRegisters → MicrosecondsOr
+unfoldable pub final_time : TimingRegisters → Result Microseconds Place
 final_time r = mclks_to_microseconds (final_clocks r) (period_clocks r.finalperiod)

@@ -6,9 +6,10 @@ mod places;
 mod registers;
 mod timeouts;
 
+use clock::Place;
 pub use places::first_place;
 pub use registers::{sequence_step_enables, timing_registers, word};
-pub use timeouts::{final_time, msrc_time, period_clocks, pre_share, pre_time, time_in};
+pub use timeouts::{final_time, msrc_time, period_clocks, pre_share, pre_time};
 
 // The six budget replies, by the register that each was read from.
 #[derive(Clone, Copy)]
@@ -37,9 +38,9 @@ pub struct SeqStepEnables {
     pub finalrange: bool,
 }
 
-// The first place of the replies that are known, if there is one.
+// A place, if the arithmetic has it, and how many of the replies it needs.
 #[derive(Clone, Copy)]
-pub enum PlaceOr {
-    Clear,
-    Place(u8),
+pub(crate) struct Entry {
+    needs: u8,
+    place: Option<Place>,
 }

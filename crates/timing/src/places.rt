@@ -1,117 +1,81 @@
 // The first place of the replies that are known, in the Rust's order.
 ghost use Rattle.std.specs.Prelude.{◌≡◌};
-ghost use Rattle.timing.specs.Places.{timeout_place, period_place, time_place, when_less, less_place, msrc_place};
-ghost use Rattle.timing.specs.Places.{entries_of, after, seen, first_match, place_or, first_place};
+ghost use Rattle.timing.specs.Places.{timeout_place, period_place, less_place, msrc_place, entry, entries_of, after, first_place};
 
 use crate::registers::sequence_step_enables;
 use crate::timeouts::{final_time, msrc_time, pre_time, timeout_clocks};
-use crate::{PlaceOr, TimingRegisters};
-use clock::{MclksOr, MicrosecondsOr, PclksOr};
+use crate::{Entry, TimingRegisters};
+use clock::Place;
 
-fn timeout_place(word: u16) -> u8
+#[tactic(auto, unfolding(crate::specs::Places::timeout_place))]
+fn timeout_place(word: u16) -> Option<Place>
     ensures { result ≡ timeout_place word }
 {
-    match clock::decode_timeout(word) {
-        MclksOr::Value(_m) => 0,
-        MclksOr::Place(p) => p,
-    }
+    clock::decode_timeout(word).err()
 }
 
-fn period_place(byte: u8) -> u8
+#[tactic(auto, unfolding(crate::specs::Places::period_place))]
+fn period_place(byte: u8) -> Option<Place>
     ensures { result ≡ period_place byte }
 {
-    match clock::decode_vcsel_period(byte) {
-        PclksOr::Value(_p) => 0,
-        PclksOr::Place(p) => p,
-    }
+    clock::decode_vcsel_period(byte).err()
 }
 
-fn time_place(x: MicrosecondsOr) -> u8
-    ensures { result ≡ time_place x }
-{
-    match x {
-        MicrosecondsOr::Value(_t) => 0,
-        MicrosecondsOr::Place(p) => p,
-    }
-}
-
-fn when_less(on: bool, whole: u16, pre: u16) -> u8
-    ensures { result ≡ when_less on whole pre }
-{
-    if on {
-        if whole < pre { 3 } else { 0 }
-    } else {
-        0
-    }
-}
-
-fn less_place(r: TimingRegisters) -> u8
+#[tactic(auto, unfolding(crate::specs::Places::less_place))]
+fn less_place(r: TimingRegisters) -> Option<Place>
     ensures { result ≡ less_place r }
 {
     let on = sequence_step_enables(r.sequence).prerange;
-    when_less(
-        on,
-        timeout_clocks(r.finaltimeout).0,
-        timeout_clocks(r.pretimeout).0,
-    )
+    let whole = timeout_clocks(r.finaltimeout).0;
+    let pre = timeout_clocks(r.pretimeout).0;
+    (on && whole < pre).then_some(Place::FinalBelowPre)
 }
 
-fn msrc_place(byte: u8) -> u8
+fn msrc_place(byte: u8) -> Option<Place>
     ensures { result ≡ msrc_place byte }
 {
-    if 254 < byte { 5 } else { 0 }
+    (254 < byte).then_some(Place::MsrcTimeout)
 }
 
 // A place counts once the replies that it is made of are known.
-fn after(n: u8, known: u8, place: u8) -> u8
+fn after(n: u8, known: u8, place: Option<Place>) -> Option<Place>
     ensures { result ≡ after n known place }
 {
-    if n <= known { place } else { 0 }
+    if n <= known { place } else { None }
 }
 
-fn places(r: TimingRegisters, known: u8) -> [u8; 9]
-    ensures { result ≡ seen known (entries_of r) }
+fn entry(needs: u8, place: Option<Place>) -> Entry
+    ensures { result ≡ entry needs place }
+{
+    Entry { needs, place }
+}
+
+#[tactic(auto, unfolding(crate::specs::Places::entries_of))]
+fn entries(r: TimingRegisters) -> [Entry; 9]
+    ensures { result ≡ entries_of r }
 {
     [
-        after(2, known, timeout_place(r.pretimeout)),
-        after(3, known, timeout_place(r.finaltimeout)),
-        after(3, known, less_place(r)),
-        after(4, known, period_place(r.preperiod)),
-        after(5, known, msrc_place(r.msrctimeout)),
-        after(6, known, period_place(r.finalperiod)),
-        after(6, known, time_place(msrc_time(r))),
-        after(6, known, time_place(pre_time(r))),
-        after(6, known, time_place(final_time(r))),
+        entry(2, timeout_place(r.pretimeout)),
+        entry(3, timeout_place(r.finaltimeout)),
+        entry(3, less_place(r)),
+        entry(4, period_place(r.preperiod)),
+        entry(5, msrc_place(r.msrctimeout)),
+        entry(6, period_place(r.finalperiod)),
+        entry(6, msrc_time(r).err()),
+        entry(6, pre_time(r).err()),
+        entry(6, final_time(r).err()),
     ]
 }
 
-// The first number that is not 0, or 0.
-fn first_of(ps: [u8; 9]) -> u8
-    ensures { result ≡ first_match ps }
-{
-    let mut i = 0;
-    while i < 9 {
-        if ps[i] != 0 {
-            return ps[i];
-        }
-        i += 1;
-    }
-    0
-}
-
-fn place_or(p: u8) -> PlaceOr
-    ensures { result ≡ place_or p }
-{
-    if p == 0 {
-        PlaceOr::Clear
-    } else {
-        PlaceOr::Place(p)
-    }
-}
-
 // The first place once the first `known` of the six replies are known.
-pub fn first_place(r: TimingRegisters, known: u8) -> PlaceOr
+#[tactic(auto, unfolding(crate::specs::Places::first_place, crate::specs::Places::first_match))]
+pub fn first_place(r: TimingRegisters, known: u8) -> Option<Place>
     ensures { result ≡ first_place r known }
 {
-    place_or(first_of(places(r, known)))
+    for entry in entries(r) {
+        if let Some(place) = after(entry.needs, known, entry.place) {
+            return Some(place);
+        }
+    }
+    None
 }

@@ -8,7 +8,7 @@ use crate::{SeqStepEnables, TimingRegisters};
 pub fn word(high: u8, low: u8) -> u16
     ensures { result ≡ word_of high low }
 {
-    (high as u16) * 256 + (low as u16)
+    u16::from_be_bytes([high, low])
 }
 
 // The registers from the eight raw bytes of the replies, in the order of the reads.
