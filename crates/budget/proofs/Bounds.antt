@@ -8,7 +8,8 @@ use lib.Dec.{ltb}
 use Rattle.clock.specs.Clock.{microseconds_of}
 use Rattle.clock.specs.declared.Mclks.{Mclks}
 use Rattle.clock.specs.declared.Nanoseconds.{Nanoseconds}
-use Rattle.clock.specs.declared.MicrosecondsOr.{MicrosecondsOr}
+use Rattle.std.specs.Prelude.{Ok, Err}
+use Rattle.clock.specs.declared.Place.{Place}
 use Rattle.timing.specs.declared.SeqStepEnables.{SeqStepEnables}
 use Rattle.timing.specs.declared.TimingRegisters.{TimingRegisters}
 use Rattle.timing.specs.Registers.{sequence_step_enables, when_on}
@@ -54,7 +55,7 @@ time_le t ns = go (ltb 4294967295 (t.0 * ns.0 + ns.0 / 2)) refl
     go :
         (b : Bool)
         → ltb 4294967295 (t.0 * ns.0 + ns.0 / 2) ≡ b
-        → (time_in (cond b (MicrosecondsOr.Place 6) (MicrosecondsOr.Value (record { 0 = (t.0 * ns.0 + ns.0 / 2) / 1000 })))).0 ≤ 4294967
+        → (time_in (cond b (Err Place.ToMicroseconds) (Ok (record { 0 = (t.0 * ns.0 + ns.0 / 2) / 1000 })))).0 ≤ 4294967
     go true h = omega arith
     go false h = omega (arith, ltb-false 4294967295 (t.0 * ns.0 + ns.0 / 2) h)
 

@@ -1,36 +1,31 @@
 // Call 15's value and call 9's word: the first place of the replies, or what the sums give.
 ghost use Rattle.std.specs.Prelude.{◌≡◌};
-ghost use Rattle.budget.specs.Budget.{budget_after, measurement_timing_budget};
-ghost use Rattle.budget.specs.Budget.{word_of_sum, with_pre, word_of_clocks, word_within, word_after, final_range_word};
+ghost use Rattle.budget.specs.Budget.{measurement_timing_budget, with_pre, word_of_sum, final_range_word};
 
 use crate::sums::{budget_sum, used_sum};
-use crate::{DssTerm, WordOr};
-use clock::{Mclks, Microseconds, MicrosecondsOr, WideMclks, WideMclksOr};
-use timing::{PlaceOr, TimingRegisters, first_place, period_clocks, pre_share};
+use crate::{DssTerm, NoWord};
+use clock::{Mclks, Microseconds, Place, WideMclks};
+use timing::{TimingRegisters, first_place, period_clocks, pre_share};
 
-fn budget_after(place: PlaceOr, r: TimingRegisters) -> MicrosecondsOr
-    ensures { result ≡ budget_after place r }
+// Call 15: the first place, or the measurement timing budget that the replies amount to.
+#[tactic(auto, unfolding(crate::specs::Budget::measurement_timing_budget))]
+pub fn measurement_timing_budget(r: TimingRegisters) -> Result<Microseconds, Place>
+    ensures { result ≡ measurement_timing_budget r }
 {
-    match place {
-        PlaceOr::Place(p) => MicrosecondsOr::Place(p),
-        PlaceOr::Clear => MicrosecondsOr::Value(budget_sum(r)),
+    match first_place(r, 6) {
+        Some(place) => Err(place),
+        None => Ok(budget_sum(r)),
     }
 }
 
-// Call 15: the first place, or the measurement timing budget that the replies amount to.
-pub fn measurement_timing_budget(r: TimingRegisters) -> MicrosecondsOr
-    ensures { result ≡ measurement_timing_budget r }
-{
-    budget_after(first_place(r, 6), r)
-}
-
-fn word_of_sum(n: u32) -> WordOr
+#[tactic(auto, unfolding(crate::specs::Budget::word_of_sum))]
+fn word_of_sum(n: u32) -> Result<u16, NoWord>
     ensures { result ≡ word_of_sum n }
 {
     if 65535 < n {
-        WordOr::Place(9)
+        Err(NoWord::Panic(Place::FinalTimeout))
     } else {
-        WordOr::Word(clock::encode_timeout(Mclks(n as u16)))
+        Ok(clock::encode_timeout(Mclks(n as u16)))
     }
 }
 
@@ -41,42 +36,24 @@ fn with_pre(clocks: WideMclks, pre: Mclks) -> u32
     clock::cut_mclks(clocks).0 as u32 + pre.0 as u32
 }
 
-fn word_of_clocks(clocks: WideMclksOr, r: TimingRegisters) -> WordOr
-    ensures { result ≡ word_of_clocks clocks r }
-{
-    match clocks {
-        WideMclksOr::Place(p) => WordOr::Place(p),
-        WideMclksOr::Value(n) => word_of_sum(with_pre(n, pre_share(r))),
-    }
-}
-
-fn word_within(r: TimingRegisters, budget: Microseconds, used: Microseconds) -> WordOr
-    ensures { result ≡ word_within r budget used }
-{
-    if budget.0 < used.0 {
-        WordOr::NoTime
-    } else {
-        let left = Microseconds(budget.0 - used.0);
-        word_of_clocks(
-            clock::timeout_microseconds_to_mclks(left, period_clocks(r.finalperiod)),
-            r,
-        )
-    }
-}
-
-fn word_after(place: PlaceOr, r: TimingRegisters, budget: Microseconds, dss: DssTerm) -> WordOr
-    ensures { result ≡ word_after place r budget dss }
-{
-    match place {
-        PlaceOr::Place(p) => WordOr::Place(p),
-        PlaceOr::Clear => word_within(r, budget, used_sum(r, dss)),
-    }
-}
-
 // Call 9 after its test of 20,000: the first place, no time left for the final range, or the word
 // for 0x71.
-pub fn final_range_word(r: TimingRegisters, budget: Microseconds, dss: DssTerm) -> WordOr
+#[tactic(auto, unfolding(crate::specs::Budget::word_within, crate::specs::Budget::final_range_word))]
+pub fn final_range_word(
+    r: TimingRegisters,
+    budget: Microseconds,
+    dss: DssTerm,
+) -> Result<u16, NoWord>
     ensures { result ≡ final_range_word r budget dss }
 {
-    word_after(first_place(r, 6), r, budget, dss)
+    if let Some(place) = first_place(r, 6) {
+        return Err(NoWord::Panic(place));
+    }
+    let used = used_sum(r, dss);
+    if budget.0 < used.0 {
+        return Err(NoWord::NoTime);
+    }
+    let left = Microseconds(budget.0 - used.0);
+    let clocks = clock::timeout_microseconds_to_mclks(left, period_clocks(r.finalperiod))?;
+    word_of_sum(with_pre(clocks, pre_share(r)))
 }

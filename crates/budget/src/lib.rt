@@ -5,20 +5,30 @@
 mod answers;
 mod sums;
 
+ghost use Rattle.std.specs.Prelude.{◌≡◌};
+ghost use Rattle.budget.specs.declared.NoWord.TheVariants.{Panic};
+
 pub use answers::{final_range_word, measurement_timing_budget};
+use clock::Place;
 
 // How often the DSS overhead is counted: twice by call 15, once by call 9.
-#[derive(Clone, Copy)]
+#[derive(Clone, Copy, Debug, PartialEq, Eq)]
 pub enum DssTerm {
     Twice,
     Once,
 }
 
-// What call 9 makes of its budget: the word to write, no time left for the final range (answer
-// 1), or a place.
-#[derive(Clone, Copy)]
-pub enum WordOr {
-    Word(u16),
+// Why call 9 has no word to write: no time is left for the final range (answer 1), or a place.
+#[derive(Clone, Copy, Debug, PartialEq, Eq)]
+pub enum NoWord {
     NoTime,
-    Place(u8),
+    Panic(Place),
+}
+
+impl From<Place> for NoWord {
+    ghost from_gives = { λ place no. no ≡ Panic place };
+
+    fn from(place: Place) -> NoWord {
+        NoWord::Panic(place)
+    }
 }

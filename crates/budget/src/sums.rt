@@ -1,18 +1,19 @@
 // The sums of call 15 and of call 9. They are made in 64 bits, where they always fit; that they fit
 // 32 is proved.
-ghost use Rattle.std.specs.Prelude.{◌≡◌};
+ghost use Rattle.std.specs.Prelude.{◌≡◌, ◌≤◌, ◌+◌, ◌*◌};
 ghost use Rattle.budget.specs.Sums.{dss_of, dss_or_msrc, step_sum, budget_sum, used_sum};
 ghost use Rattle.timing.specs.Registers.{when_on};
+ghost use Rattle.timing.specs.Timeouts.{time_in};
 
 use crate::DssTerm;
-use clock::Microseconds;
+use clock::{Microseconds, Place};
 use timing::{
     SeqStepEnables, TimingRegisters, final_time, msrc_time, pre_time, sequence_step_enables,
-    time_in,
 };
 
 fn when_on(on: bool, n: u64) -> u64
-    ensures { result ≡ when_on on n }
+    ensures value { result ≡ when_on on n }
+    ensures upper_bound { result ≤ n }
 {
     if on { n } else { 0 }
 }
@@ -28,8 +29,10 @@ fn dss_of(dss: DssTerm, msrc: u32) -> u64
 }
 
 // What DSS counts, or MSRC where DSS is off.
+#[tactic(auto, unfolding(crate::specs::Sums::dss_or_msrc))]
 fn dss_or_msrc(on: SeqStepEnables, dss: DssTerm, msrc: u32) -> u64
-    ensures { result ≡ dss_or_msrc on dss msrc }
+    ensures value { result ≡ dss_or_msrc on dss msrc }
+    ensures upper_bound { result ≤ 2 * msrc + 1380 }
 {
     if on.dss {
         dss_of(dss, msrc)
@@ -38,6 +41,7 @@ fn dss_or_msrc(on: SeqStepEnables, dss: DssTerm, msrc: u32) -> u64
     }
 }
 
+#[tactic(auto, unfolding(crate::specs::Sums::step_sum))]
 fn step_sum(on: SeqStepEnables, start: u32, dss: DssTerm, msrc: u32, pre: u32, last: u32) -> u64
     ensures { result ≡ step_sum on start dss msrc pre last }
 {
@@ -48,23 +52,32 @@ fn step_sum(on: SeqStepEnables, start: u32, dss: DssTerm, msrc: u32, pre: u32, l
     start as u64 + 960 + tcc + part + before + after
 }
 
+// A time, or 0 where its arithmetic has a place: the place comes first, so that nothing uses it.
+fn time_in(x: Result<Microseconds, Place>) -> u32
+    ensures { result ≡ (time_in x).0 }
+{
+    x.unwrap_or(Microseconds(0)).0
+}
+
+#[tactic(auto, unfolding(crate::specs::Sums::budget_sum))]
 pub fn budget_sum(r: TimingRegisters) -> Microseconds
     ensures { result ≡ budget_sum r }
 {
     let on = sequence_step_enables(r.sequence);
-    let msrc = time_in(msrc_time(r)).0;
-    let pre = time_in(pre_time(r)).0;
-    let last = time_in(final_time(r)).0;
+    let msrc = time_in(msrc_time(r));
+    let pre = time_in(pre_time(r));
+    let last = time_in(final_time(r));
     let sum = step_sum(on, 1910, DssTerm::Twice, msrc, pre, last + 550);
     Microseconds(sum as u32)
 }
 
+#[tactic(auto, unfolding(crate::specs::Sums::used_sum))]
 pub fn used_sum(r: TimingRegisters, dss: DssTerm) -> Microseconds
     ensures { result ≡ used_sum r dss }
 {
     let on = sequence_step_enables(r.sequence);
-    let msrc = time_in(msrc_time(r)).0;
-    let pre = time_in(pre_time(r)).0;
+    let msrc = time_in(msrc_time(r));
+    let pre = time_in(pre_time(r));
     let sum = step_sum(on, 1320, dss, msrc, pre, 550);
     Microseconds(sum as u32)
 }

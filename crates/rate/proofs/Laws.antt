@@ -4,7 +4,7 @@ use mathlib.Core.Bool.{Bool, true, false, cond}
 use Prim.Native.Nat.{ℕ}
 use lib.Ieee.{Float, binary32, round, of_bits, mul, to_unsigned}
 use Rattle.rate.specs.Rate.{literal, in_range, signal_rate_limit_word, as_rust}
-use Rattle.rate.specs.declared.RateWord.TheVariants.{Word, Refused}
+use Rattle.std.specs.Prelude.{None, Some}
 use Rattle.rate.proofs.Product.{scale}
 use Rattle.rate.proofs.Word.{rate_of_lem, word}
 
@@ -13,10 +13,10 @@ unfolding literal round of_bits
 scale_literal = refl
 
 module _ (b : ℕ) where
-  by_range : (k : Bool) → in_range (of_bits binary32 b) ≡ k → signal_rate_limit_word b ≡ cond k (Word (as_rust (of_bits binary32 b))) Refused
+  by_range : (k : Bool) → in_range (of_bits binary32 b) ≡ k → signal_rate_limit_word b ≡ cond k (Some (as_rust (of_bits binary32 b))) None
   unfolding signal_rate_limit_word
-  by_range true h = sym (word b h) ∙ ap (λ (z : Float). Word (to_unsigned 16 (mul binary32 (of_bits binary32 b) z))) scale_literal
+  by_range true h = sym (word b h) ∙ ap (λ (z : Float). Some (to_unsigned 16 (mul binary32 (of_bits binary32 b) z))) scale_literal
   by_range false h = rate_of_lem (of_bits binary32 b) false h
 
-  pub as_rust_lem : signal_rate_limit_word b ≡ cond (in_range (of_bits binary32 b)) (Word (as_rust (of_bits binary32 b))) Refused
+  pub as_rust_lem : signal_rate_limit_word b ≡ cond (in_range (of_bits binary32 b)) (Some (as_rust (of_bits binary32 b))) None
   as_rust_lem = by_range (in_range (of_bits binary32 b)) refl

@@ -1,10 +1,8 @@
 -- The number of call 14. 01: "In 0.0..=511.99 it writes limit × 128 cut to a whole number; NaN and all else give 1."
-use Rattle.std.specs.Prelude.{Bool, false, ◌&&◌, cond, ℕ, ◌*◌, ◌/◌, Float}
+use Rattle.std.specs.Prelude.{Bool, false, ◌&&◌, cond, ℕ, ◌*◌, ◌/◌, Float, Option, None, Some}
 use Rattle.std.specs.Float.{binary32}
 use Rattle.std.specs.Float.Ieee.{round, of_bits, le, mul, to_unsigned}
 use Rattle.std.specs.Float.Ieee.Positive.{num, den}
-use Rattle.rate.specs.declared.RateWord.{RateWord}
-use Rattle.rate.specs.declared.RateWord.TheVariants.{Word, Refused}
 
 -- the `f32` nearest to a / b, as a Rust compiler reads the literals 0.0 and 511.99
 unfoldable pub literal : ℕ → ℕ → Float
@@ -15,11 +13,11 @@ unfoldable pub in_range : Float → Bool
 in_range x = le (literal 0 1) x && le x (literal 51199 100)
 
 -- The size of a finite x is the fraction num x / den x, exactly, so this is "limit × 128 cut to a whole number". 01: "−0.0 writes 0."
-unfoldable pub rate_of : Float → RateWord
-rate_of x = cond (in_range x) (Word (num x * 128 / den x)) Refused
+unfoldable pub rate_of : Float → Option ℕ
+rate_of x = cond (in_range x) (Some (num x * 128 / den x)) None
 
 -- 01: "Call 14: a 32-bit float in MCPS", given by its bits
-unfoldable pub signal_rate_limit_word : ℕ → RateWord
+unfoldable pub signal_rate_limit_word : ℕ → Option ℕ
 signal_rate_limit_word bits = rate_of (of_bits binary32 bits)
 
 -- lib.rs, set_signal_rate_limit: `(limit * ((1 << 7) as f32)) as u16`. In range the word is this (`as_rust_lem` of proofs/Laws.antt)

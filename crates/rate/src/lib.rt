@@ -6,13 +6,6 @@ ghost use Rattle.std.specs.Float.{binary32};
 ghost use Rattle.std.specs.Float.Ieee.{of_bits, to_unsigned};
 ghost use Rattle.rate.specs.Rate.{signal_rate_limit_word};
 
-// The word to write, or the limit is refused (answer 1).
-#[derive(Clone, Copy)]
-pub enum RateWord {
-    Word(u16),
-    Refused,
-}
-
 // `f32::from_bits(bits) as u16` of Rust, worked out from the bits: the fraction is dropped, and what a `u16` does not hold becomes its nearest end.
 fn whole_part(bits: u32) -> u16
     ensures { result ≡ to_unsigned 16 (of_bits binary32 bits) }
@@ -35,21 +28,17 @@ fn whole_part(bits: u32) -> u16
     (digits >> (150 - exponent)) as u16
 }
 
-// The word of a limit whose float has these bits. A NaN's pattern is refused before a float is made of it.
-pub fn signal_rate_limit_word(bits: u32) -> RateWord
+// The word of a limit whose float has these bits; none where it is refused (answer 1). A NaN's pattern is refused before a float is made of it.
+pub fn signal_rate_limit_word(bits: u32) -> Option<u16>
     ensures { result ≡ signal_rate_limit_word bits }
 {
     if 0x7f80_0000 < bits % 0x8000_0000 {
-        return RateWord::Refused;
+        return None;
     }
     let limit: f32 = f32::from_bits(bits);
-    if limit >= 0.0 {
-        if limit <= 511.99 {
-            RateWord::Word(whole_part(f32::to_bits(limit * 128.0)))
-        } else {
-            RateWord::Refused
-        }
+    if limit >= 0.0 && limit <= 511.99 {
+        Some(whole_part(f32::to_bits(limit * 128.0)))
     } else {
-        RateWord::Refused
+        None
     }
 }

@@ -1,9 +1,8 @@
 -- The interrupt thresholds. 01, calls 10 and 11; lib.rs: set_interrupt_thresholds_mm, get_interrupt_thresholds_mm.
-use Rattle.std.specs.Prelude.{Bool, true, false, ◌||◌, ◌*◌, ◌/◌, ◌%◌, ltb}
+use Rattle.std.specs.Prelude.{Bool, true, false, ◌||◌, ◌*◌, ◌/◌, ◌%◌, ltb, Result, Ok, Err}
 use Rattle.threshold.specs.declared.Millimeters.{Millimeters}
 use Rattle.threshold.specs.declared.RawThreshold.{RawThreshold}
-use Rattle.threshold.specs.declared.ThresholdCheck.{ThresholdCheck}
-use Rattle.threshold.specs.declared.ThresholdCheck.TheVariants.{Valid, InvalidArgument}
+use Rattle.threshold.specs.declared.InvalidArgument.{InvalidArgument}
 
 -- half the millimetres, in 12 bits. lib.rs: (low_mm >> 1) & 0x0FFF. Above 8190 the bits above the twelfth are dropped
 abbrev pub encode_threshold : Millimeters → RawThreshold
@@ -14,10 +13,10 @@ abbrev pub decode_threshold : RawThreshold → Millimeters
 decode_threshold raw = record { 0 = raw.0 % 4096 * 2 }
 
 -- what the test of the arguments gives
-abbrev pub refuse_if : Bool → ThresholdCheck
-refuse_if true = InvalidArgument
-refuse_if false = Valid
+abbrev pub refuse_if : Bool → Result Unit InvalidArgument
+refuse_if true = Err (record {})
+refuse_if false = Ok tt
 
 -- 01: "call 10, low > high or either > 8190", answer 6
-abbrev pub check_thresholds : Millimeters → Millimeters → ThresholdCheck
+abbrev pub check_thresholds : Millimeters → Millimeters → Result Unit InvalidArgument
 check_thresholds low high = refuse_if (ltb high.0 low.0 || ltb 8190 low.0 || ltb 8190 high.0)

@@ -11,11 +11,9 @@ pub struct Millimeters(pub u16);
 #[derive(Clone, Copy)]
 pub struct RawThreshold(pub u16);
 
-#[derive(Clone, Copy)]
-pub enum ThresholdCheck {
-    Valid,
-    InvalidArgument,
-}
+// What is wrong with thresholds that are refused: answer 6.
+#[derive(Clone, Copy, Debug, PartialEq, Eq)]
+pub struct InvalidArgument;
 
 // Total: a waiting session may carry any argument, and the mask of the source then drops the bits above the twelfth.
 pub fn encode_threshold(mm: Millimeters) -> RawThreshold
@@ -30,18 +28,12 @@ pub fn decode_threshold(raw: RawThreshold) -> Millimeters
     Millimeters((raw.0 & 0x0FFF) << 1)
 }
 
-// The test that call 10 makes before its first transfer; InvalidArgument is answer 6.
-pub fn check_thresholds(low: Millimeters, high: Millimeters) -> ThresholdCheck
+// The test that call 10 makes before its first transfer.
+pub fn check_thresholds(low: Millimeters, high: Millimeters) -> Result<(), InvalidArgument>
     ensures { result ≡ check_thresholds low high }
 {
-    if low.0 > high.0 {
-        return ThresholdCheck::InvalidArgument;
+    if low.0 > high.0 || low.0 > 8190 || high.0 > 8190 {
+        return Err(InvalidArgument);
     }
-    if low.0 > 8190 {
-        return ThresholdCheck::InvalidArgument;
-    }
-    if high.0 > 8190 {
-        return ThresholdCheck::InvalidArgument;
-    }
-    ThresholdCheck::Valid
+    Ok(())
 }

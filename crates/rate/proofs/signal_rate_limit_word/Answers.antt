@@ -3,10 +3,11 @@ use mathlib.Core.Path.{sym, ap, ◌∙◌, subst}
 use native.Mathlib.Omega.{arith}
 use lib.Dec.{T}
 use lib.Ieee.{Float, binary32, of_bits, le}
-use Rattle.rate.specs.declared.RateWord.TheVariants.{Word}
 use Rattle.rate.proofs.Word.{no_nan, refused_nan, refused_below, refused_above, ranged, word_by_bits}
 use Rattle.rate.proofs.Product.{product_number, in_range_finite}
+use Rattle.std.specs.Prelude.{Some}
 use Rattle.rate.proofs.signal_rate_limit_word.Goals as goal
+use Rattle.rate.proofs.signal_rate_limit_word.Goals.{else-limit-via-then-limit+else-limit-2, else-limit-via-else-limit}
 
 pub returns-then-bits-gt2139095040 : goal.returns-then-bits-gt2139095040
 returns-then-bits-gt2139095040 c = refused_nan c.args.bits (omega arith)
@@ -23,10 +24,11 @@ float_to_bits-limit c =
     product_number limit _ (in_range_finite limit lo hi) tt
 
 pub returns-then-limit-2 : goal.returns-then-limit-2
-returns-then-limit-2 c = ap Word c.whole_part.ensures ∙ word_by_bits c.args.bits (ranged (of_bits binary32 c.args.bits) c.if-limit.true c.if-limit-2.true)
-
-pub returns-else-limit-2 : goal.returns-else-limit-2
-returns-else-limit-2 c = refused_above c.args.bits c.if-limit-2.false
+returns-then-limit-2 c = ap Some c.whole_part.ensures ∙ word_by_bits c.args.bits (ranged (of_bits binary32 c.args.bits) c.if-limit.true c.if-limit-2.true)
 
 pub returns-else-limit : goal.returns-else-limit
-returns-else-limit c = refused_below c.args.bits c.if-limit.false
+returns-else-limit c =
+    elim c.else-limit.branch [
+      | else-limit-via-then-limit+else-limit-2 w ↦ refused_above c.args.bits w.if-limit-2.false
+      | else-limit-via-else-limit w ↦ refused_below c.args.bits w.if-limit.false
+    ]
