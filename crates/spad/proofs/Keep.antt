@@ -1,20 +1,20 @@
 -- Laws of `keep`, each by its clauses: one bit, a number's bits, two lists in a row.
--- From these: bytes walked one after another are the selection of the map, and their ones are its ones.
+-- From these: the bytes of a map walked one after another are its selection.
 use mathlib.Core.Path.{◌≡◌, refl, sym, ap, ◌∙◌, subst}
 use mathlib.Core.Bool.{Bool, true, false, cond}
 use mathlib.Core.List.{List, [], ◌∷◌, ◌++◌}
 use Prim.Native.Nat.{ℕ, zero, suc, ◌+◌, ◌-◌, ◌*◌, ◌/◌, ◌%◌, ◌^◌, ◌≤◌, ◌<◌, min}
 use native.Mathlib.Omega.{arith}
 use native.Mathlib.Nat.{zero-add, sub-zero, zero-sub, suc-sub-suc, pow-succ', lt_of_lt_of_le}
-use native.Mathlib.Numerals.{one-add}
+use native.Mathlib.Numerals.{one-add, add-one}
 use lib.Dec.{eqb, lit<}
-use lib.ListN.{length, drop, get_or}
-use lib.Seq.{take_at, drop_at}
+use lib.ListN.{length, take, drop, get_or, set, drop_of_length-le}
+use lib.Seq.{take_at, drop_at, drop-cons}
+use Rattle.std.proofs.lemmas.List.{take_more_set, take_all, append_assoc, append-nil}
 use lib.Count.{ones, ones_step}
 use lib.Pow.{pow_mono}
-use Rattle.spad.specs.Map.{bits_of, byte_of, map_bits, map_bytes, first_spad, keep, selected, ones_in, select_spads, trues}
+use Rattle.spad.specs.Map.{bits_of, byte_of, map_bits, map_bytes, first_spad, keep, selected, ones_in, trues}
 use Rattle.spad.specs.Walk.{BitWalked, ByteWalked}
-use Rattle.spad.specs.declared.Selection.{Selection}
 
 -- ---- one bit
 pred_is : (s : ℕ) → suc s - 1 ≡ s
@@ -128,12 +128,12 @@ keep_append ys zero (suc n) (false ∷ xs) = simp (zero-sub, zero-add, keep_appe
 
 -- ---- a map, byte by byte
 -- each byte under what the bytes before it left to skip and wanted
-unfoldable walked : ℕ → ℕ → List ℕ → List ℕ
+unfoldable pub walked : ℕ → ℕ → List ℕ → List ℕ
 walked s n [] = []
 walked s n (b ∷ bs) =
     byte_of (keep s n (bits_of 8 b)) ∷ walked (s - 8) (n - ones (byte_of (keep s n (bits_of 8 b)))) bs
 
-walked_is : (s n : ℕ) (m : List ℕ) → map_bytes (length m) (keep s n (map_bits m)) ≡ walked s n m
+pub walked_is : (s n : ℕ) (m : List ℕ) → map_bytes (length m) (keep s n (map_bits m)) ≡ walked s n m
 unfolding map_bytes map_bits walked
 walked_is s n [] = refl
 walked_is s n (b ∷ bs) =
@@ -141,39 +141,26 @@ walked_is s n (b ∷ bs) =
     let l : length k ≡ 8 = length_keep s n (bits_of 8 b) ∙ length_bits 8 b in
     rw (keep_append (map_bits bs) s n (bits_of 8 b), length_bits 8 b, ← ones_byte k, take_at k _ 8 l, drop_at k _ 8 l, walked_is (s - 8) (n - ones (byte_of k)) bs)
 
--- bytes walked one after another, the masked bytes, and the sum of their ones
-pub data Walks : ℕ → ℕ → List ℕ → List ℕ → ℕ → Type 0 where
-  done : {s n : ℕ} → Walks s n [] [] 0
-  next : {b s n byte k s' n' ks : ℕ} {bs out : List ℕ} → ByteWalked b s n byte k s' n' → Walks s' n' bs out ks
-      → Walks s n (b ∷ bs) (byte ∷ out) (k + ks)
-
-walks : {s n k : ℕ} {bs out : List ℕ} → Walks s n bs out k → out ≡ walked s n bs
-unfolding walked
-walks done = refl
-walks (next w r) = rw (walks r, w.next_skip, w.next_wanted, w.counted, w.walked)
-
-sum_is : {s n k : ℕ} {bs out : List ℕ} → Walks s n bs out k → k ≡ ones_in out
-unfolding ones_in
-sum_is done = refl
-sum_is (next w r) = rw (w.counted, sum_is r)
-
-six : (m : List ℕ) → length m ≡ 6
-    → m ≡ get_or m 0 0 ∷ get_or m 1 0 ∷ get_or m 2 0 ∷ get_or m 3 0 ∷ get_or m 4 0 ∷ get_or m 5 0 ∷ []
-six [] h = absurd (omega arith)
-six (a ∷ []) h = absurd (omega arith)
-six (a ∷ b ∷ []) h = absurd (omega arith)
-six (a ∷ b ∷ c ∷ []) h = absurd (omega arith)
-six (a ∷ b ∷ c ∷ d ∷ []) h = absurd (omega arith)
-six (a ∷ b ∷ c ∷ d ∷ e ∷ []) h = absurd (omega arith)
-six (a ∷ b ∷ c ∷ d ∷ e ∷ f ∷ []) h = refl
-six (a ∷ b ∷ c ∷ d ∷ e ∷ f ∷ g ∷ r) h = absurd (omega arith)
-
--- the six walked bytes of a map are its selection, and the sum of their ones is the number kept
-pub selection : (m out : List ℕ) (s count kept : ℕ) {k : ℕ} (aperture : Bool) → length m ≡ 6 → s ≡ first_spad aperture
-    → Walks s count (get_or m 0 0 ∷ get_or m 1 0 ∷ get_or m 2 0 ∷ get_or m 3 0 ∷ get_or m 4 0 ∷ get_or m 5 0 ∷ []) out k → kept ≡ k
-    → ◌≡◌ {A = Selection} (record { map = out; kept = kept }) (select_spads m count aperture)
+-- the selection by bytes
+pub selected_is : (m : List ℕ) (s count : ℕ) (aperture : Bool) → length m ≡ 6 → s ≡ first_spad aperture → walked s count m ≡ selected m count aperture
 unfolding selected
-selection m out s count kept aperture l e w h =
-    let same : out ≡ map_bytes 6 (keep (first_spad aperture) count (map_bits m)) =
-    walks w ∙ ap (walked s count) (sym (six m l)) ∙ rw e (rw l at (sym (walked_is (first_spad aperture) count m))) in
-    rw (h, sum_is w, same)
+selected_is m s count aperture l e = rw e (rw l at (sym (walked_is (first_spad aperture) count m)))
+
+ones_last : (bs : List ℕ) (b : ℕ) → ones_in (bs ++ b ∷ []) ≡ ones_in bs + ones b
+unfolding ones_in
+ones_last [] b = omega arith
+ones_last (x ∷ bs) b = rw (ones_last bs b) (omega arith)
+
+-- all bytes are walked
+pub none_more : (m out : List ℕ) (i s n : ℕ) → length m ≤ i → length out ≤ i → take i out ++ walked s n (drop i m) ≡ out
+unfolding walked
+none_more m out i s n h l = rw (drop_of_length-le m h, append-nil, take_all i out l)
+
+-- one byte more is walked and written
+module _ (m out : List ℕ) (i s n byte k s' n' : ℕ) (h : i < length m) (l : i < length out) (w : ByteWalked (get_or m i 0) s n byte k s' n') where
+  pub one_more : take (i + 1) (set out i byte) ++ walked s' n' (drop (i + 1) m) ≡ take i out ++ walked s n (drop i m)
+  unfolding walked
+  one_more = rw (take_more_set out i byte l, drop-cons m i 0 h, append_assoc, w.next_skip, w.next_wanted, w.counted, w.walked, add-one)
+
+  pub ones_more : ones_in (take i out) + k ≡ ones_in (take (i + 1) (set out i byte))
+  ones_more = rw (take_more_set out i byte l, ones_last (take i out) byte, w.counted)

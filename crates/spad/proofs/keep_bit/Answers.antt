@@ -5,17 +5,17 @@ use lib.Dec.{eqb}
 use Rattle.spad.proofs.Keep.{keep_skip, keep_none, keep_one}
 use Rattle.spad.proofs.keep_bit.Goals as goal
 
-pub returns-then-skip-gt0 : goal.returns-then-skip-gt0
-returns-then-skip-gt0 c =
+pub returns-then-left-gt0 : goal.returns-then-left-gt0
+returns-then-left-gt0 c =
     let a = c.args in
-    record { small = omega arith; walked = λ xs. keep_skip a.skip a.wanted (eqb (a.b % 2) 1) xs (omega arith) }
+    record { small = omega arith; walked = λ xs. keep_skip a.left.skip a.left.wanted (eqb (a.b % 2) 1) xs (omega arith) }
 
-pub returns-then-wanted-eq0 : goal.returns-then-wanted-eq0
-returns-then-wanted-eq0 c =
+pub returns-then-left-eq0 : goal.returns-then-left-eq0
+returns-then-left-eq0 c =
     let a = c.args in
     record {
       small = omega arith;
-      walked = λ xs. keep_none a.skip a.wanted (eqb (a.b % 2) 1) xs (omega arith) (omega arith);
+      walked = λ xs. keep_none a.left.skip a.left.wanted (eqb (a.b % 2) 1) xs (omega arith) (omega arith);
     }
 
 pub returns : goal.returns
@@ -23,5 +23,5 @@ returns c =
     let a = c.args in
     record {
       small = omega arith;
-      walked = λ xs. keep_one a.skip a.wanted (a.b % 2) xs (omega arith) (omega arith) (omega arith);
+      walked = λ xs. keep_one a.left.skip a.left.wanted (a.b % 2) xs (omega arith) (omega arith) (omega arith);
     }

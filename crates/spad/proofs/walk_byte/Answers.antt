@@ -18,7 +18,7 @@ pub overflow_sub-result : goal.overflow_sub-result
 overflow_sub-result c =
     let k = c.keep_bits-byte in
     let a = c.args in
-    omega (arith, wanted-most k.result a.b a.skip a.wanted k.ensures)
+    omega (arith, wanted-most k.result a.b a.left.skip a.left.wanted k.ensures)
 
 pub returns : goal.returns
 returns c =
@@ -27,7 +27,7 @@ returns c =
     record {
       walked = k.ensures;
       counted = refl;
-      few = eight-most k.result a.b a.skip a.wanted k.ensures;
-      next_skip = c.skip_after_byte.ensures;
+      few = eight-most k.result a.b a.left.skip a.left.wanted k.ensures;
+      next_skip = c.saturating_sub.ensures;
       next_wanted = refl;
     }
