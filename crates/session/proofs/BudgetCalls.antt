@@ -8,7 +8,7 @@ use lib.Dec.{eqb, ltb}
 use borrow.Author.Tests.{ltb-false, le-ltb}
 use Rattle.clock.specs.Clock.{mclks_of}
 use Rattle.timing.specs.declared.TimingRegisters.{TimingRegisters}
-use Rattle.timing.specs.declared.PlaceOr.{PlaceOr}
+use Rattle.std.specs.Prelude.{None}
 use Rattle.timing.specs.Registers.{sequence_step_enables, when_on}
 use Rattle.timing.specs.Timeouts.{time_in, timeout_clocks, pre_share}
 use Rattle.timing.specs.Places.{first_place}
@@ -60,7 +60,7 @@ tested r budget chip ret =
 
 -- once the tests are passed
 final_word : (r : TimingRegisters) (budget : ℕ)
-    → first_place r 6 ≡ PlaceOr.Clear
+    → first_place r 6 ≡ None
     → ltb budget (used_sum r DssTerm.Once).0 ≡ false
     → ltb 4294967295 (spare_sum r budget) ≡ false
     → eqb (final_macro r) 0 ≡ false
@@ -95,7 +95,7 @@ set_rest budget enables timeouts =
       set_self_budget budget
       Ok true)
 
-tests_are : (r : TimingRegisters) (budget : ℕ) → first_place r 6 ≡ PlaceOr.Clear → set_rest budget (enables_in r) (timeouts_in r) ≡ tested r budget
+tests_are : (r : TimingRegisters) (budget : ℕ) → first_place r 6 ≡ None → set_rest budget (enables_in r) (timeouts_in r) ≡ tested r budget
 unfolding pre_share
 tests_are r budget h = fun_ext (λ chip. fun_ext (λ ret.
     rw (used_of r, clocks_is, bit_on_is)

@@ -7,7 +7,7 @@ use native.Mathlib.Omega.{arith}
 use borrow.Author.Tests.{leb-true, eqb-true}
 use lib.Dec.{eqb, leb}
 use lib.ListN.{drop}
-use Rattle.timing.specs.declared.PlaceOr.{PlaceOr}
+use Rattle.std.specs.Prelude.{None}
 use Rattle.timing.specs.Places.{first_place}
 use Rattle.session.specs.Bus.{Transfer, Answer, Reply, bad, good, wait_limit, idle_on}
 use Rattle.session.specs.Instructions.{Instruction, Context, Op, write, read, wait, range, Final, bytes_from, timing_in, send_of}
@@ -23,7 +23,7 @@ use Rattle.session.proofs.Later.{later_stays}
 
 -- the first m replies from slot j on are clear
 abbrev Clear : ℕ → ℕ → Context → Type 0
-Clear m j c = first_place (timing_in j c.carried) m ≡ PlaceOr.Clear
+Clear m j c = first_place (timing_in j c.carried) m ≡ None
 
 -- instructions none of which makes tests again
 abbrev is_other : {i : Instruction} → Kind i → Bool

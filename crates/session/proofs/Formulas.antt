@@ -6,50 +6,63 @@ use native.Mathlib.Omega.{arith}
 use native.Mathlib.Nat.{sub-zero}
 use lib.Dec.{eqb, ltb, leb}
 use borrow.Author.Tests.{ltb-true, lt-ltb}
-use Rattle.clock.specs.declared.MclksOr.{MclksOr}
-use Rattle.clock.specs.declared.PclksOr.{PclksOr}
-use Rattle.clock.specs.declared.MicrosecondsOr.{MicrosecondsOr}
+use Rattle.std.specs.Prelude.{Option, None, Some, is_none, Ok as Worth, Err as Fails}
+use Rattle.std.specs.Result.{result_err, result_unwrap_or}
+use Rattle.clock.specs.declared.Place.{Place}
+use Rattle.clock.specs.Places.{place_number}
 use Rattle.clock.specs.Clock.{decoded_timeout, decoded_vcsel_period, microseconds_of, mclks_to_microseconds}
 use Rattle.timing.specs.Registers.{when_on}
-use Rattle.timing.specs.Timeouts.{mclks_in, pclks_in, time_in, timeout_clocks, period_clocks}
-use Rattle.timing.specs.Places.{mclks_place, pclks_place, time_place, timeout_place, period_place, when_less, msrc_place}
+use Rattle.timing.specs.Timeouts.{time_in, timeout_clocks, period_clocks}
+use Rattle.timing.specs.Places.{timeout_place, period_place, msrc_place}
 use Rattle.session.specs.Bus.{Answer}
 use Rattle.session.specs.Script.{Script}
+use Rattle.session.proofs.Once.{number}
 use Rattle.session.specs.RustFn.{Chip, Result, ok, err, Fn, Ok, panic, if}
 use Rattle.session.specs.RustClocks.{over_u32, multiply_period, decode_timeout, decode_vcsel_period, calc_macro_period, timeout_mclks_to_microseconds, subtract_if, plus_one}
 
--- x, or a panic where the place p is not 0
-abbrev pub placed : ℕ → ℕ → Fn ℕ
-placed p x chip ret = cond (eqb p 0) (ret (ok x) chip) (ret (err (Answer.Panic p)) chip)
+-- x, or a panic where there is a place
+abbrev pub placed : Option Place → ℕ → Fn ℕ
+placed p x chip ret = cond (is_none p) (ret (ok x) chip) (ret (err (Answer.Panic (number p))) chip)
 
 -- a test that panics, and an answer that is a place or a value by the same test
-module _ {O : Type 0} (place value : O → ℕ) (p v : O) (panics : eqb (place p) 0 ≡ false) (goes_on : place v ≡ 0) where
-  by_test : (t : Bool) → if t (panic (place p)) (Ok (value v)) ≡ placed (place (cond t p v)) (value (cond t p v))
-  by_test true = fun_ext (λ chip. fun_ext (λ ret. rw panics))
-  by_test false = fun_ext (λ chip. fun_ext (λ ret. rw goes_on))
+module _ {T : Type 0} (value : T → ℕ) (p : Place) (v d : T) where
+  by_test : (t : Bool)
+      → if t (panic (place_number p)) (Ok (value v))
+      ≡ placed (result_err (cond t (Fails p) (Worth v))) (value (result_unwrap_or (cond t (Fails p) (Worth v)) d))
+  by_test true = refl
+  by_test false = refl
+
+-- a test that panics, and the place that it shows
+by_place : (p : Place) (x : ℕ) (t : Bool) → if t (panic (place_number p)) (Ok x) ≡ placed (cond t (Some p) None) x
+by_place p x true = refl
+by_place p x false = refl
+
+-- 01: "Final less than pre while pre-range is on"
+abbrev pub less_by : Bool → ℕ → ℕ → Option Place
+less_by on x y = cond (on && ltb x y) (Some Place.FinalBelowPre) None
 
 pub decode_is : decode_timeout ≡ (λ w. placed (timeout_place w) (timeout_clocks w).0)
 unfolding decode_timeout timeout_place timeout_clocks decoded_timeout
 decode_is = fun_ext (λ w.
     let x = w % 256 * 2 ^ (w / 256) % 65536 + 1 in
-    by_test mclks_place (λ a. (mclks_in a).0) (MclksOr.Place 2) (MclksOr.Value (record { 0 = x })) refl refl (leb 16 (w / 256)))
+    by_test (λ m. m.0) Place.TimeoutShift (record { 0 = x }) (record { 0 = 0 }) (leb 16 (w / 256)))
 
 pub vcsel_is : decode_vcsel_period ≡ (λ b. placed (period_place b) (period_clocks b).0)
 unfolding decode_vcsel_period period_place period_clocks decoded_vcsel_period
 vcsel_is = fun_ext (λ b.
     let x = (b + 1) * 2 % 256 in
-    by_test pclks_place (λ a. (pclks_in a).0) (PclksOr.Place 4) (PclksOr.Value (record { 0 = x })) refl refl (eqb b 255))
+    by_test (λ m. m.0) Place.VcselPeriod (record { 0 = x }) (record { 0 = 0 }) (eqb b 255))
 
 pub plus_is : plus_one ≡ (λ x. placed (msrc_place x) (x + 1))
 unfolding plus_one
-plus_is = fun_ext (λ x. by_test (λ a. a) (λ a. x + 1) 5 0 refl refl (ltb 255 (x + 1)))
+plus_is = fun_ext (λ x. by_place Place.MsrcTimeout (x + 1) (ltb 255 (x + 1)))
 
-pub subtract_is : subtract_if ≡ (λ on x y. placed (when_less on x y) (x - when_on on y))
+pub subtract_is : subtract_if ≡ (λ on x y. placed (less_by on x y) (x - when_on on y))
 unfolding subtract_if
 subtract_is = fun_ext (λ on. fun_ext (λ x. fun_ext (λ y. go on x y)))
   where
-    go : (on : Bool) (x y : ℕ) → if on (if (ltb x y) (panic 3) (Ok (x - y))) (Ok x) ≡ placed (when_less on x y) (x - when_on on y)
-    go true x y = by_test (λ a. a) (λ a. x - y) 3 0 refl refl (ltb x y)
+    go : (on : Bool) (x y : ℕ) → if on (if (ltb x y) (panic 3) (Ok (x - y))) (Ok x) ≡ placed (less_by on x y) (x - when_on on y)
+    go true x y = by_place Place.FinalBelowPre (x - y) (ltb x y)
     go false x y = rw (sub-zero x)
 
 -- the product is at most the sum
@@ -61,13 +74,13 @@ either_over a b = go (ltb 4294967295 a) refl
     go false h = refl
 
 pub micros_is : timeout_mclks_to_microseconds
-    ≡ (λ t p. placed (time_place (mclks_to_microseconds (record { 0 = t }) (record { 0 = p }))) (time_in (mclks_to_microseconds (record { 0 = t }) (record { 0 = p }))).0)
+    ≡ (λ t p. placed (result_err (mclks_to_microseconds (record { 0 = t }) (record { 0 = p }))) (time_in (mclks_to_microseconds (record { 0 = t }) (record { 0 = p }))).0)
 unfolding timeout_mclks_to_microseconds microseconds_of
 micros_is = fun_ext (λ t. fun_ext (λ p.
     let macro = calc_macro_period p in
     let sum = t * macro + macro / 2 in
     rw (either_over (t * macro) (macro / 2))
-    (by_test time_place (λ a. (time_in a).0) (MicrosecondsOr.Place 6) (MicrosecondsOr.Value (record { 0 = sum / 1000 })) refl refl (over_u32 sum))))
+    (by_test (λ m. m.0) Place.ToMicroseconds (record { 0 = sum / 1000 }) (record { 0 = 0 }) (over_u32 sum))))
 
 pub period_is : multiply_period
     ≡ (λ period osc chip ret.

@@ -3,7 +3,7 @@ use mathlib.Core.Path.{◌≡◌, refl, sym, ap, ◌∙◌}
 use mathlib.Core.List.{List}
 use Prim.Native.Nat.{ℕ, zero, suc, ◌+◌, ◌≤◌}
 use native.Mathlib.Omega.{arith}
-use Rattle.timing.specs.declared.PlaceOr.{PlaceOr}
+use Rattle.std.specs.Prelude.{None}
 use Rattle.timing.specs.Registers.{registers_of}
 use Rattle.timing.specs.Places.{less_place, entries_of, first_match, first_place}
 use Rattle.session.specs.Instructions.{bytes_from, put, timing_in}
@@ -26,8 +26,8 @@ first_replies (suc (suc (suc (suc (suc zero))))) h k l = refl
 first_replies (suc (suc (suc (suc (suc (suc n)))))) h k l = absurd (omega arith)
 
 -- the reply of the next read is kept
-pub later_stays : (n : ℕ) → n ≤ 5 → (k : ℕ) (l bytes : List ℕ) → first_place (timing_in k l) n ≡ PlaceOr.Clear
-    → first_place (timing_in k (put l (k + timing_place (suc n)) bytes)) n ≡ PlaceOr.Clear
+pub later_stays : (n : ℕ) → n ≤ 5 → (k : ℕ) (l bytes : List ℕ) → first_place (timing_in k l) n ≡ None
+    → first_place (timing_in k (put l (k + timing_place (suc n)) bytes)) n ≡ None
 later_stays n h k l bytes e =
     first_replies n h k (put l (k + timing_place (suc n)) bytes)
     ∙ ap (λ bs. first_place (registers_of bs) n) (from_below k (timing_place (suc n)) (k + timing_place (suc n)) l bytes (omega arith))

@@ -3,25 +3,39 @@ use mathlib.Core.Bool.{cond}
 use mathlib.Core.List.{List, [], ◌∷◌}
 use Prim.Native.Nat.{ℕ, ◌+◌, ◌-◌, ◌*◌, ◌/◌}
 use lib.Dec.{eqb, ltb}
+use Rattle.std.specs.Prelude.{◌≡◌, refl, true, Option, None, Some, is_none}
+use Rattle.clock.specs.declared.Place.{Place}
+use Rattle.clock.specs.Places.{place_number}
 use Rattle.clock.specs.Clock.{macro_period}
 use Rattle.timing.specs.declared.TimingRegisters.{TimingRegisters}
 use Rattle.timing.specs.Timeouts.{pre_share, period_clocks}
-use Rattle.timing.specs.Places.{Entry, entries_of}
+use Rattle.timing.specs.declared.Entry.{Entry}
+use Rattle.timing.specs.Places.{entries_of}
 use Rattle.budget.specs.declared.DssTerm.{DssTerm}
 use Rattle.budget.specs.Sums.{used_sum}
 use Rattle.budget.specs.Budget.{with_pre}
+use Rattle.session.proofs.Facts.{clash}
 use Rattle.session.specs.Instructions.{Instruction, panics, Verdict, onward, stop, test, Op, read, timing_in}
 use Rattle.session.specs.Steps.{budget_to_set, no_time, over_last, timing_register, timing_length, timing_place, op_of}
 
+-- 01's number of a place, or 0
+abbrev pub number : Option Place → ℕ
+number None = 0
+number (Some p) = place_number p
+
+pub none_is : (p : Option Place) → is_none p ≡ true → p ≡ None
+none_is None e = refl
+none_is (Some p) e = clash cc
+
 -- the places whose last reply is the n-th
-abbrev pub places_at : ℕ → List Entry → List ℕ
+abbrev pub places_at : ℕ → List Entry → List (Option Place)
 places_at n [] = []
 places_at n (e ∷ es) = cond (eqb e.needs n) (e.place ∷ places_at n es) (places_at n es)
 
 -- none of these places, or the first of them; then v
-abbrev pub by_places : List ℕ → Verdict → Verdict
+abbrev pub by_places : List (Option Place) → Verdict → Verdict
 by_places [] v = v
-by_places (p ∷ ps) v = test (eqb p 0) (by_places ps v) (stop (panics p))
+by_places (p ∷ ps) v = test (is_none p) (by_places ps v) (stop (panics (number p)))
 
 -- the tests of set_measurement_timing_budget, in the Rust's order
 abbrev pub final_macro : TimingRegisters → ℕ

@@ -3,7 +3,7 @@ use mathlib.Core.Path.{◌≡◌, refl, sym, ap}
 use mathlib.Core.Bool.{true, false, cond}
 use Prim.Native.Nat.{ℕ}
 use lib.Ieee.{binary32, round, of_bits, le}
-use Rattle.rate.specs.declared.RateWord.{RateWord}
+use Rattle.std.specs.Prelude.{None, Some}
 use Rattle.rate.specs.Rate.{literal, in_range, rate_of, signal_rate_limit_word}
 use Rattle.rate.proofs.Laws.{as_rust_lem}
 use Rattle.session.specs.Steps.{rate_in}
@@ -14,14 +14,14 @@ unfolding limit_contained in_range literal
 contained_is = refl
 
 -- both cases at once
-word_or : (bits : ℕ) → signal_rate_limit_word bits ≡ cond (limit_contained bits) (RateWord.Word (limit_word bits)) RateWord.Refused
+word_or : (bits : ℕ) → signal_rate_limit_word bits ≡ cond (limit_contained bits) (Some (limit_word bits)) None
 unfolding limit_word literal
 word_or bits = rw contained_is (as_rust_lem bits)
 
-pub accepted_is : (bits : ℕ) → limit_contained bits ≡ true → signal_rate_limit_word bits ≡ RateWord.Word (limit_word bits)
+pub accepted_is : (bits : ℕ) → limit_contained bits ≡ true → signal_rate_limit_word bits ≡ Some (limit_word bits)
 accepted_is bits h = rw h at (word_or bits)
 
-pub refused_is : (bits : ℕ) → limit_contained bits ≡ false → signal_rate_limit_word bits ≡ RateWord.Refused
+pub refused_is : (bits : ℕ) → limit_contained bits ≡ false → signal_rate_limit_word bits ≡ None
 refused_is bits h = rw h at (word_or bits)
 
 pub word_is : (bits : ℕ) → limit_contained bits ≡ true → limit_word bits ≡ rate_in (signal_rate_limit_word bits)

@@ -1,8 +1,7 @@
 -- The calls: what their arguments decide, their instructions, and how they end. 01, "Calls"; the transfers are those of lib.rs, in its order.
-use Rattle.std.specs.Prelude.{Bool, true, ◌||◌, ◌&&◌, List, [], ◌∷◌, ◌++◌, map, ℕ, zero, suc, ◌+◌, ◌*◌, ltb, leb, get_or}
-use Rattle.rate.specs.declared.RateWord.{RateWord}
+use Rattle.std.specs.Prelude.{Bool, true, ◌||◌, ◌&&◌, List, [], ◌∷◌, ◌++◌, map, ℕ, zero, suc, ◌+◌, ◌*◌, ltb, leb, get_or, Option, None, Some, Result, Ok, Err}
 use Rattle.rate.specs.Rate.{signal_rate_limit_word}
-use Rattle.threshold.specs.declared.ThresholdCheck.{ThresholdCheck}
+use Rattle.threshold.specs.declared.InvalidArgument.{InvalidArgument}
 use Rattle.threshold.specs.Threshold.{check_thresholds, decode_threshold}
 use Rattle.session.specs.Bus.{byte, Driver, with_driver_address, with_driver_budget}
 use Rattle.session.specs.Instructions.{Instruction, Context, declines, wrong_address, wrong_argument, Verdict, onward, stop, test, Op, Final, success, failure, identity_slot, stop_slot, mask_slot, spad_slot, range_slot, timing_slot, second_slot}
@@ -184,9 +183,9 @@ set_budget_call =
       final = λ c. success 0 (with_driver_budget c.driver c.a);
     }
 
-abbrev pub by_thresholds : ThresholdCheck → Verdict
-by_thresholds ThresholdCheck.Valid = onward
-by_thresholds ThresholdCheck.InvalidArgument = stop wrong_argument
+abbrev pub by_thresholds : Result Unit InvalidArgument → Verdict
+by_thresholds (Ok u) = onward
+by_thresholds (Err e) = stop wrong_argument
 
 -- call 10, lib.rs: set_interrupt_thresholds_mm
 abbrev pub set_thresholds_call : Program
@@ -213,9 +212,9 @@ set_gpio_config_call = plain (gpio_steps Instruction.WriteFunction Instruction.W
 abbrev pub clear_interrupt_status_call : Program
 clear_interrupt_status_call = plain clearing
 
-abbrev pub by_rate : RateWord → Verdict
-by_rate (RateWord.Word w) = onward
-by_rate RateWord.Refused = stop declines
+abbrev pub by_rate : Option ℕ → Verdict
+by_rate (Some w) = onward
+by_rate None = stop declines
 
 -- call 14, lib.rs: set_signal_rate_limit
 abbrev pub set_signal_rate_limit_call : Program

@@ -1,15 +1,16 @@
 -- The meaning of each instruction. Arithmetic is that of the leaves: clocks, budget, map, rate, thresholds.
-use Rattle.std.specs.Prelude.{Bool, not, ◌&&◌, cond, List, [], ◌∷◌, ℕ, ◌+◌, ◌*◌, ◌/◌, ◌%◌, eqb, ltb, get_or}
+use Rattle.std.specs.Prelude.{Bool, not, ◌&&◌, cond, List, [], ◌∷◌, ℕ, ◌+◌, ◌*◌, ◌/◌, ◌%◌, eqb, ltb, get_or, Option, None, Some, Result, Ok, Err, unwrap_or}
+use Rattle.std.specs.Result.{result_unwrap_or}
+use Rattle.clock.specs.declared.Place.{Place}
+use Rattle.clock.specs.Places.{place_number}
 use Rattle.spad.specs.Map.{selected}
 use Rattle.spad.specs.Masks.{or_byte, and_byte}
-use Rattle.rate.specs.declared.RateWord.{RateWord}
 use Rattle.rate.specs.Rate.{signal_rate_limit_word}
 use Rattle.threshold.specs.Threshold.{encode_threshold}
-use Rattle.timing.specs.declared.PlaceOr.{PlaceOr}
 use Rattle.timing.specs.Registers.{word_of}
 use Rattle.timing.specs.Places.{first_place}
 use Rattle.budget.specs.declared.DssTerm.{DssTerm}
-use Rattle.budget.specs.declared.WordOr.{WordOr}
+use Rattle.budget.specs.declared.NoWord.{NoWord}
 use Rattle.budget.specs.Budget.{final_range_word}
 use Rattle.session.specs.Bus.{byte, detector_ready, status_ready, started}
 use Rattle.session.specs.Instructions.{Instruction, Context, declines, wrong_device, unready, panics, Verdict, onward, leap, stop, test, Op, write, read, wait, range, identity_slot, mask_slot, spad_slot, timing_slot, second_slot, map_slot, bytes_from, timing_in}
@@ -38,25 +39,22 @@ abbrev pub keeps : ℕ → ℕ → ℕ → Op
 keeps reg len k = read reg len k 0 pass
 
 -- a place of the arithmetic ends the call
-abbrev pub by_place : PlaceOr → Verdict
-by_place PlaceOr.Clear = onward
-by_place (PlaceOr.Place p) = stop (panics p)
+abbrev pub by_place : Option Place → Verdict
+by_place None = onward
+by_place (Some p) = stop (panics (place_number p))
 
 -- so does a final range word that cannot be had; `short` is what follows where no time is left for the final range
-abbrev pub by_word : Verdict → WordOr → Verdict
-by_word short (WordOr.Word w) = onward
-by_word short WordOr.NoTime = short
-by_word short (WordOr.Place p) = stop (panics p)
+abbrev pub by_word : Verdict → Result ℕ NoWord → Verdict
+by_word short (Ok w) = onward
+by_word short (Err NoWord.NoTime) = short
+by_word short (Err (NoWord.Panic p)) = stop (panics (place_number p))
 
 -- the word, or 0 where there is none: only a session that no run leaves stands there
-abbrev pub word_in : WordOr → ℕ
-word_in (WordOr.Word w) = w
-word_in WordOr.NoTime = 0
-word_in (WordOr.Place p) = 0
+abbrev pub word_in : Result ℕ NoWord → ℕ
+word_in x = result_unwrap_or x 0
 
-abbrev pub rate_in : RateWord → ℕ
-rate_in (RateWord.Word w) = w
-rate_in RateWord.Refused = 0
+abbrev pub rate_in : Option ℕ → ℕ
+rate_in x = unwrap_or x 0
 
 -- 01: "call 9 uses start 1320 and 2 × MSRC + 690"
 abbrev pub dss_of_call9 : DssTerm
@@ -66,7 +64,7 @@ dss_of_call9 = DssTerm.Once
 abbrev pub budget_to_set : ℕ → Context → ℕ
 budget_to_set k c = cond (eqb k second_slot) c.own c.a
 
-abbrev pub word_to_set : ℕ → Context → WordOr
+abbrev pub word_to_set : ℕ → Context → Result ℕ NoWord
 word_to_set k c = final_range_word (timing_in k c.carried) (record { 0 = budget_to_set k c }) dss_of_call9
 
 -- 01: "It drops an answer 1 of its budget step": a bring-up leaps over the write, call 9 is answered 1

@@ -40,7 +40,7 @@ pub struct SeqStepEnables {
 
 // A place, if the arithmetic has it, and how many of the replies it needs.
 #[derive(Clone, Copy)]
-pub(crate) struct Entry {
-    needs: u8,
-    place: Option<Place>,
+pub struct Entry {
+    pub needs: u8,
+    pub place: Option<Place>,
 }
