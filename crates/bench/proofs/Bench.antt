@@ -15,6 +15,7 @@ bench = record {
   decode_0000 = refl;
   decode_0FFF = refl;
   decode_1000 = refl;
+  place_2 = refl;
   encode_0 = refl;
   encode_256 = refl;
   encode_258 = refl;

@@ -1,13 +1,11 @@
 -- 01, "Bench values": the lines marked P, in their order, as one list about the definitions; and the values of the session.
-use Rattle.std.specs.Prelude.{◌≡◌, true, List, [], ◌∷◌, ℕ}
-use Rattle.clock.specs.declared.MclksOr.{MclksOr}
-use Rattle.clock.specs.declared.PclksOr.{PclksOr}
-use Rattle.clock.specs.declared.MicrosecondsOr.{MicrosecondsOr}
+use Rattle.std.specs.Prelude.{◌≡◌, true, List, [], ◌∷◌, ℕ, Ok, Err}
+use Rattle.clock.specs.declared.Place.{Place}
+use Rattle.clock.specs.Places.{place_number}
 use Rattle.clock.specs.Clock.{decoded_timeout, encoded_timeout, decoded_vcsel_period, macro_period}
 use Rattle.spad.specs.Map.{selected}
 use Rattle.timing.specs.declared.TimingRegisters.{TimingRegisters}
 use Rattle.budget.specs.declared.DssTerm.{DssTerm}
-use Rattle.budget.specs.declared.WordOr.{WordOr}
 use Rattle.timing.specs.Registers.{registers_of}
 use Rattle.budget.specs.Budget.{measurement_timing_budget, final_range_word}
 use Rattle.session.specs.Bench.{SessionValues}
@@ -21,21 +19,22 @@ abbrev pub reads : TimingRegisters
 reads = registers_of (0xE8 ∷ 0x00 ∷ 0x96 ∷ 0x01 ∷ 0xFE ∷ 0x06 ∷ 0x25 ∷ 0x04 ∷ [])
 
 pub record BenchValues : Type 0 where
-  pub decode_0000 : decoded_timeout 0x0000 ≡ MclksOr.Value (record { 0 = 1 })
-  pub decode_0FFF : decoded_timeout 0x0FFF ≡ MclksOr.Value (record { 0 = 32769 })
-  pub decode_1000 : decoded_timeout 0x1000 ≡ MclksOr.Place 2
+  pub decode_0000 : decoded_timeout 0x0000 ≡ Ok (record { 0 = 1 })
+  pub decode_0FFF : decoded_timeout 0x0FFF ≡ Ok (record { 0 = 32769 })
+  pub decode_1000 : decoded_timeout 0x1000 ≡ Err Place.TimeoutShift
+  pub place_2 : place_number Place.TimeoutShift ≡ 2
   pub encode_0 : encoded_timeout (record { 0 = 0 }) ≡ 0
   pub encode_256 : encoded_timeout (record { 0 = 256 }) ≡ 0x00FF
   pub encode_258 : encoded_timeout (record { 0 = 258 }) ≡ 0x0180
-  pub decode_0180 : decoded_timeout 0x0180 ≡ MclksOr.Value (record { 0 = 257 })
+  pub decode_0180 : decoded_timeout 0x0180 ≡ Ok (record { 0 = 257 })
   pub encode_65535 : encoded_timeout (record { 0 = 65535 }) ≡ 0x08FF
-  pub vcsel_6 : decoded_vcsel_period 6 ≡ PclksOr.Value (record { 0 = 14 })
-  pub vcsel_127 : decoded_vcsel_period 127 ≡ PclksOr.Value (record { 0 = 0 })
-  pub vcsel_128 : decoded_vcsel_period 128 ≡ PclksOr.Value (record { 0 = 2 })
+  pub vcsel_6 : decoded_vcsel_period 6 ≡ Ok (record { 0 = 14 })
+  pub vcsel_127 : decoded_vcsel_period 127 ≡ Ok (record { 0 = 0 })
+  pub vcsel_128 : decoded_vcsel_period 128 ≡ Ok (record { 0 = 2 })
   pub macro_14 : macro_period (record { 0 = 14 }) ≡ record { 0 = 53384 }
   pub map_5 : selected all_good 5 true ≡ 0x00 ∷ 0xF0 ∷ 0x01 ∷ 0x00 ∷ 0x00 ∷ 0x00 ∷ []
   pub map_0 : selected all_good 0 true ≡ 0x00 ∷ 0x00 ∷ 0x00 ∷ 0x00 ∷ 0x00 ∷ 0x00 ∷ []
-  pub call_15 : measurement_timing_budget reads ≡ MicrosecondsOr.Value (record { 0 = 31326 })
-  pub call_9 : final_range_word reads (record { 0 = 33000 }) DssTerm.Once ≡ WordOr.Word 0x0292
+  pub call_15 : measurement_timing_budget reads ≡ Ok (record { 0 = 31326 })
+  pub call_9 : final_range_word reads (record { 0 = 33000 }) DssTerm.Once ≡ Ok 0x0292
   -- the numbers and values of the answers, a fresh session's zeros, and the run that 01 prints
   pub session : SessionValues

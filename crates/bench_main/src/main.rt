@@ -2,21 +2,20 @@
 // is 01's.
 #![tactic(auto)]
 
-use rate::RateWord;
 use std::io;
-use threshold::{Millimeters, ThresholdCheck};
+use threshold::{InvalidArgument, Millimeters};
 
 fn rate_line(rt: &impl Print, name: &str, bits: u32) -> io::Result<()> {
     match rate::signal_rate_limit_word(bits) {
-        RateWord::Word(word) => println!(rt; "{name} writes {word}"),
-        RateWord::Refused => println!(rt; "{name} refused"),
+        Some(word) => println!(rt; "{name} writes {word}"),
+        None => println!(rt; "{name} refused"),
     }
 }
 
 fn threshold_line(rt: &impl Print, mm: u16) -> io::Result<()> {
     match threshold::check_thresholds(Millimeters(0), Millimeters(mm)) {
-        ThresholdCheck::Valid => println!(rt; "{mm} accepted"),
-        ThresholdCheck::InvalidArgument => println!(rt; "{mm} refused"),
+        Ok(()) => println!(rt; "{mm} accepted"),
+        Err(InvalidArgument) => println!(rt; "{mm} refused"),
     }
 }
 

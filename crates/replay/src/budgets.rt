@@ -1,10 +1,10 @@
 // What the crates timing and budget answer.
 use crate::{clocks, print, record};
-use budget::{DssTerm, WordOr};
-use clock::Microseconds;
+use budget::{DssTerm, NoWord};
+use clock::{Microseconds, Place};
 use std::io;
 use std::io::Write;
-use timing::{PlaceOr, TimingRegisters};
+use timing::TimingRegisters;
 
 fn replies(out: &mut impl Write, b: [u8; 8]) -> io::Result<()> {
     print::hex(out, b[0])?;
@@ -21,15 +21,15 @@ fn replies(out: &mut impl Write, b: [u8; 8]) -> io::Result<()> {
     print::space(out)
 }
 
-fn word_or(out: &mut impl Write, answer: WordOr) -> io::Result<()> {
+fn word_or(out: &mut impl Write, answer: Result<u16, NoWord>) -> io::Result<()> {
     match answer {
-        WordOr::Word(w) => print::word(out, w),
-        WordOr::NoTime => print::text(out, b"N"),
-        WordOr::Place(p) => print::place(out, p),
+        Ok(w) => print::word(out, w),
+        Err(NoWord::NoTime) => print::text(out, b"N"),
+        Err(NoWord::Panic(p)) => print::place(out, p),
     }
 }
 
-fn reply_and_place(out: &mut impl Write, known: u8, place: u8) -> io::Result<bool> {
+fn reply_and_place(out: &mut impl Write, known: u8, place: Place) -> io::Result<bool> {
     print::byte(out, known)?;
     print::text(out, b":")?;
     print::place(out, place)?;
@@ -39,8 +39,8 @@ fn reply_and_place(out: &mut impl Write, known: u8, place: u8) -> io::Result<boo
 // Whether the first `known` replies have a place; if so, it is written.
 fn has_place(out: &mut impl Write, r: TimingRegisters, known: u8) -> io::Result<bool> {
     match timing::first_place(r, known) {
-        PlaceOr::Place(p) => reply_and_place(out, known, p),
-        PlaceOr::Clear => Ok(false),
+        Some(p) => reply_and_place(out, known, p),
+        None => Ok(false),
     }
 }
 

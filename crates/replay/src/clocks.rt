@@ -1,15 +1,13 @@
 // What the crate clock answers. Where the Rust panics, the place stands for the number.
 use crate::{print, record};
-use clock::{
-    Mclks, MclksOr, Microseconds, MicrosecondsOr, Pclks, PclksOr, VcselByteOr, WideMclksOr,
-};
+use clock::{Mclks, Microseconds, Pclks, Place, WideMclks};
 use std::io;
 use std::io::Write;
 
 pub fn decode_timeout(out: &mut impl Write, register_value: u16) -> io::Result<()> {
     match clock::decode_timeout(register_value) {
-        MclksOr::Value(m) => print::word(out, m.0),
-        MclksOr::Place(p) => print::place(out, p),
+        Ok(m) => print::word(out, m.0),
+        Err(p) => print::place(out, p),
     }
 }
 
@@ -19,15 +17,15 @@ pub fn encode_timeout(out: &mut impl Write, timeout: u16) -> io::Result<()> {
 
 pub fn decode_vcsel_period(out: &mut impl Write, register_value: u8) -> io::Result<()> {
     match clock::decode_vcsel_period(register_value) {
-        PclksOr::Value(p) => print::byte(out, p.0),
-        PclksOr::Place(p) => print::place(out, p),
+        Ok(p) => print::byte(out, p.0),
+        Err(p) => print::place(out, p),
     }
 }
 
 pub fn encode_vcsel_period(out: &mut impl Write, period: u8) -> io::Result<()> {
     match clock::encode_vcsel_period(Pclks(period)) {
-        VcselByteOr::Value(b) => print::byte(out, b),
-        VcselByteOr::Place(p) => print::place(out, p),
+        Ok(b) => print::byte(out, b),
+        Err(p) => print::place(out, p),
     }
 }
 
@@ -35,17 +33,17 @@ pub fn calc_macro_period(out: &mut impl Write, period: u8) -> io::Result<()> {
     print::number(out, clock::calc_macro_period(Pclks(period)).0)
 }
 
-pub fn microseconds(out: &mut impl Write, answer: MicrosecondsOr) -> io::Result<()> {
+pub fn microseconds(out: &mut impl Write, answer: Result<Microseconds, Place>) -> io::Result<()> {
     match answer {
-        MicrosecondsOr::Value(t) => print::number(out, t.0),
-        MicrosecondsOr::Place(p) => print::place(out, p),
+        Ok(t) => print::number(out, t.0),
+        Err(p) => print::place(out, p),
     }
 }
 
-fn wide_mclks(out: &mut impl Write, answer: WideMclksOr) -> io::Result<()> {
+fn wide_mclks(out: &mut impl Write, answer: Result<WideMclks, Place>) -> io::Result<()> {
     match answer {
-        WideMclksOr::Value(m) => print::number(out, m.0),
-        WideMclksOr::Place(p) => print::place(out, p),
+        Ok(m) => print::number(out, m.0),
+        Err(p) => print::place(out, p),
     }
 }
 

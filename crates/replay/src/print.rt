@@ -1,4 +1,5 @@
 // What is printed, piece by piece.
+use clock::Place;
 use std::io;
 use std::io::Write;
 
@@ -27,9 +28,9 @@ pub fn byte(out: &mut impl Write, n: u8) -> io::Result<()> {
 }
 
 // A place of the arithmetic at which the Rust panics.
-pub fn place(out: &mut impl Write, n: u8) -> io::Result<()> {
+pub fn place(out: &mut impl Write, p: Place) -> io::Result<()> {
     text(out, b"P")?;
-    byte(out, n)
+    byte(out, u8::from(p))
 }
 
 pub fn hex(out: &mut impl Write, n: u8) -> io::Result<()> {

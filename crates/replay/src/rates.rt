@@ -1,13 +1,12 @@
 // What the crate rate answers.
 use crate::{print, record};
-use rate::RateWord;
 use std::io;
 use std::io::Write;
 
-fn word_or_refused(out: &mut impl Write, answer: RateWord) -> io::Result<()> {
+fn word_or_refused(out: &mut impl Write, answer: Option<u16>) -> io::Result<()> {
     match answer {
-        RateWord::Word(w) => print::word(out, w),
-        RateWord::Refused => print::text(out, b"refused"),
+        Some(w) => print::word(out, w),
+        None => print::text(out, b"refused"),
     }
 }
 

@@ -2,7 +2,7 @@
 use crate::{print, record};
 use std::io;
 use std::io::Write;
-use threshold::{Millimeters, RawThreshold, ThresholdCheck};
+use threshold::{InvalidArgument, Millimeters, RawThreshold};
 
 fn encoded(out: &mut impl Write, mm: u16) -> io::Result<()> {
     print::word(out, threshold::encode_threshold(Millimeters(mm)).0)
@@ -11,8 +11,8 @@ fn encoded(out: &mut impl Write, mm: u16) -> io::Result<()> {
 // The word of a limit that is both low and high.
 pub fn encode_threshold(out: &mut impl Write, mm: u16) -> io::Result<()> {
     match threshold::check_thresholds(Millimeters(mm), Millimeters(mm)) {
-        ThresholdCheck::Valid => encoded(out, mm),
-        ThresholdCheck::InvalidArgument => print::text(out, b"R"),
+        Ok(()) => encoded(out, mm),
+        Err(InvalidArgument) => print::text(out, b"R"),
     }
 }
 
@@ -33,8 +33,8 @@ fn window(out: &mut impl Write, low: u16, high: u16) -> io::Result<()> {
     print::word(out, high)?;
     print::space(out)?;
     match threshold::check_thresholds(Millimeters(low), Millimeters(high)) {
-        ThresholdCheck::Valid => both_encoded(out, low, high),
-        ThresholdCheck::InvalidArgument => print::text(out, b"R"),
+        Ok(()) => both_encoded(out, low, high),
+        Err(InvalidArgument) => print::text(out, b"R"),
     }
 }
 
