@@ -8,20 +8,16 @@ use Rattle.session.specs.Calls.{Program, nothing, tuning, programs, program_of}
 use Rattle.calls.specs.declared.Call.{Call}
 use Rattle.calls.specs.Calls.{calls, call_of, program_for, step_of, instruction_at, steps_in}
 
-named : map program_for calls ≡ programs
-unfolding program_for calls programs
-named = refl
-
 pub program_named : (code : ℕ) → program_of code ≡ program_for (call_of code)
 unfolding program_of call_of program_for calls programs
 program_named code = get_or-map program_for calls code Call.Nothing
 
+abbrev step_count : Program → ℕ
+step_count p = length p.steps
+
 -- the lengths of the lists, by computing them
 abbrev pub lengths : List ℕ
 lengths = 0 ∷ 156 ∷ 1 ∷ 1 ∷ 10 ∷ 6 ∷ 4 ∷ 4 ∷ 13 ∷ 7 ∷ 2 ∷ 2 ∷ 5 ∷ 2 ∷ 1 ∷ 6 ∷ []
-
-abbrev step_count : Program → ℕ
-step_count p = length p.steps
 
 counted : map step_count programs ≡ lengths
 unfolding programs tuning

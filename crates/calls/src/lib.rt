@@ -35,30 +35,32 @@ pub enum Call {
     GetBudget,
 }
 
-const CALLS: [Call; 16] = [
-    Call::Nothing,
-    Call::WithAddress,
-    Call::WhoAmI,
-    Call::SetAddress,
-    Call::StartContinuous,
-    Call::StopContinuous,
-    Call::ReadRangeMm,
-    Call::ReadRangeContinuous,
-    Call::ReadRangeSingle,
-    Call::SetBudget,
-    Call::SetThresholds,
-    Call::GetThresholds,
-    Call::SetGpioConfig,
-    Call::ClearInterruptStatus,
-    Call::SetSignalRateLimit,
-    Call::GetBudget,
+// By code: the call, and how many instructions it has.
+const CALLS: [(Call, u8); 16] = [
+    (Call::Nothing, 0),
+    (Call::WithAddress, 156),
+    (Call::WhoAmI, 1),
+    (Call::SetAddress, 1),
+    (Call::StartContinuous, 10),
+    (Call::StopContinuous, 6),
+    (Call::ReadRangeMm, 4),
+    (Call::ReadRangeContinuous, 4),
+    (Call::ReadRangeSingle, 13),
+    (Call::SetBudget, 7),
+    (Call::SetThresholds, 2),
+    (Call::GetThresholds, 2),
+    (Call::SetGpioConfig, 5),
+    (Call::ClearInterruptStatus, 2),
+    (Call::SetSignalRateLimit, 1),
+    (Call::GetBudget, 6),
 ];
 
-#[tactic(auto, unfolding(crate::specs::Calls::call_of, crate::specs::Calls::calls))]
+const NO_CALL: (Call, u8) = (Call::Nothing, 0);
+
 pub fn call_of(code: u8) -> Call
     ensures { result ≡ call_of code }
 {
-    looked_up(&CALLS, code, Call::Nothing)
+    looked_up(&CALLS, code, NO_CALL).0
 }
 
 // The instruction of a call at a step.
@@ -86,14 +88,11 @@ fn step_of(call: Call, step: u8) -> Instruction
     }
 }
 
-const LENGTHS: [u8; 16] = [0, 156, 1, 1, 10, 6, 4, 4, 13, 7, 2, 2, 5, 2, 1, 6];
-
 // How many instructions the call with this code has.
-#[tactic(auto, using(crate::proofs::Programs::steps_counted))]
 pub fn steps_in(code: u8) -> u8
     ensures { result ≡ steps_in code }
 {
-    looked_up(&LENGTHS, code, 0)
+    looked_up(&CALLS, code, NO_CALL).1
 }
 
 // The instruction of the call with this code at a step; past the call's end, or for a code that is no call, there is none.

@@ -7,9 +7,11 @@ use Rattle.threshold.specs.Threshold.{decode_threshold}
 use Rattle.ends.specs.declared.Finished.{Finished}
 use Rattle.ends.specs.declared.RangeFailure.{RangeFailure}
 
+-- a success: its value and the driver's fields
 abbrev pub finishes : ℕ → Driver → Finished
 finishes v d = record { value = v; driver = d }
 
+-- a call ends in that, or in the failure code of its range read
 abbrev pub Ended : Type 0
 Ended = Result Finished RangeFailure
 

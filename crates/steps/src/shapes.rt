@@ -51,6 +51,9 @@ pub struct TimingRead {
     pub place: u8,
 }
 
+// A word has two bytes.
+const WORD: u8 = 2;
+
 const NO_READ: TimingRead = TimingRead {
     register: 0x00,
     length: 0,
@@ -66,12 +69,12 @@ const TIMING_READS: [TimingRead; 7] = [
     },
     TimingRead {
         register: 0x51,
-        length: 2,
+        length: WORD,
         place: 1,
     },
     TimingRead {
         register: 0x71,
-        length: 2,
+        length: WORD,
         place: 3,
     },
     TimingRead {
