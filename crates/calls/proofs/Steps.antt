@@ -1,51 +1,43 @@
--- Laws of the steps of a list.
-use mathlib.Core.Path.{◌≡◌, refl, sym, ◌∙◌, ap}
-use mathlib.Core.List.{List, [], ◌∷◌, ◌++◌, map}
-use Prim.Native.Nat.{ℕ, zero, suc, ◌+◌, ◌-◌, ◌≤◌, ◌<◌}
-use native.Mathlib.Nat.{le_of_suc-le-suc, not-suc-le-zero}
-use native.Mathlib.Omega.{arith}
-use lib.ListN.{length, get_or}
-use lib.Seq.{get_or-append-add}
+-- Laws of the steps of lists that follow one another.
+use Rattle.std.proofs.Common.{◌≡◌, ℕ, ◌-◌, ◌+◌, ◌<◌, ◌≤◌, List, ◌++◌, length, get_or, drop, Bor, map, sym, ◌∙◌, refl}
+use Rattle.std.specs.List.{flat_map}
+use Rattle.std.proofs.lemmas.List.{get_or_append_left, get_or-append_right, get_or-map, get_or_past, length-map, at_drop_more, at_drop_all}
 use Rattle.session.specs.declared.Instruction.{Instruction}
-use Rattle.session.specs.Calls.{rows}
-use Rattle.session.proofs.Facts.{past}
 use Rattle.calls.specs.Calls.{step_of}
-use Rattle.calls.specs.Parts.{row_bytes}
 
--- within it what stands for the part past its end does not matter
-pub any_default : {A : Type 0} (l : List A) (i : ℕ) (d e : A) → i < length l → get_or l i d ≡ get_or l i e
-any_default [] i d e h = absurd (not-suc-le-zero h)
-any_default (x ∷ l) zero d e h = refl
-any_default (x ∷ l) (suc i) d e h = any_default l i d e (le_of_suc-le-suc h)
-
-pub beyond : (l : List Instruction) (i : ℕ) → length l ≤ i → Instruction.Nowhere ≡ step_of l i
+pub in_first : (xs ys : List Instruction) (i : ℕ) → i < length xs → step_of (xs ++ ys) i ≡ step_of xs i
 unfolding step_of
-beyond l i h = past l i Instruction.Nowhere h
+in_first xs ys i h = get_or_append_left xs ys Instruction.Nowhere i h
 
-pub head_step : (x : Instruction) (l : List Instruction) (i : ℕ) → i ≡ 0 → x ≡ step_of (x ∷ l) i
+pub in_second : (xs ys : List Instruction) (i : ℕ) → length xs ≤ i → step_of (xs ++ ys) i ≡ step_of ys (i - length xs)
 unfolding step_of
-head_step x l i e = rw e refl
+in_second xs ys i h = get_or-append_right xs ys (length xs) i Instruction.Nowhere refl h
 
--- a row of two bytes, as an instruction
-pub row_step : (l : List (ℕ × ℕ)) (i : ℕ) (d : List ℕ) → i < length l
-    → Instruction.Write (get_or (get_or (map row_bytes l) i d) 0 0) (get_or (get_or (map row_bytes l) i d) 1 0) ≡ step_of (rows l) i
+-- the steps of the tables from the k-th on
+abbrev pub left : List (Bor (List Instruction)) → ℕ → ℕ → Instruction
+left ts k i = step_of (flat_map (λ t. t.now) (drop k ts)) i
+
+from_table : (ts : List (Bor (List Instruction))) (k i : ℕ) (d : Bor (List Instruction)) → k < length ts
+    → left ts k i ≡ step_of ((get_or ts k d).now ++ flat_map (λ t. t.now) (drop (k + 1) ts)) i
+from_table ts k i d h = at_drop_more (λ us. step_of (flat_map (λ t. t.now) us) i) ts k d h
+
+pub in_table : (ts : List (Bor (List Instruction))) (k i : ℕ) (d : Bor (List Instruction)) → k < length ts → i < length (get_or ts k d).now
+    → left ts k i ≡ step_of (get_or ts k d).now i
+in_table ts k i d h lt = from_table ts k i d h ∙ in_first _ _ i lt
+
+pub after_table : (ts : List (Bor (List Instruction))) (k i : ℕ) (d : Bor (List Instruction)) → k < length ts → length (get_or ts k d).now ≤ i
+    → left ts k i ≡ left ts (k + 1) (i - length (get_or ts k d).now)
+after_table ts k i d h le = from_table ts k i d h ∙ in_second _ _ i le
+
+pub after_all : (ts : List (Bor (List Instruction))) (k i : ℕ) → length ts ≤ k → left ts k i ≡ Instruction.Nowhere
 unfolding step_of
-row_step [] i d h = absurd (not-suc-le-zero h)
-row_step (x ∷ l) zero d h = refl
-row_step (x ∷ l) (suc i) d h = row_step l i d (le_of_suc-le-suc h)
+after_all ts k i h = at_drop_all (λ us. step_of (flat_map (λ t. t.now) us) i) ts k h
 
--- the steps of two lists, one after the other
-first_part : (xs ys : List Instruction) (i : ℕ) → i < length xs → step_of xs i ≡ step_of (xs ++ ys) i
+-- the steps that a table of other things gives
+pub mapped : {A : Type 0} (f : A → Instruction) (xs : List A) (i : ℕ) (d : A) → i < length xs → f (get_or xs i d) ≡ step_of (map f xs) i
 unfolding step_of
-first_part [] ys i h = absurd (not-suc-le-zero h)
-first_part (x ∷ xs) ys zero h = refl
-first_part (x ∷ xs) ys (suc i) h = first_part xs ys i (le_of_suc-le-suc h)
+mapped f xs i d h = sym (get_or-map f xs i d Instruction.Nowhere h)
 
-pub in_first : (xs ys : List Instruction) (i : ℕ) (r : Instruction) → i < length xs → r ≡ step_of xs i → r ≡ step_of (xs ++ ys) i
-in_first xs ys i r h e = e ∙ first_part xs ys i h
-
-pub in_second : (xs ys : List Instruction) (i : ℕ) (r : Instruction) → length xs ≤ i → r ≡ step_of ys (i - length xs) → r ≡ step_of (xs ++ ys) i
+pub mapped_past : {A : Type 0} (f : A → Instruction) (xs : List A) (i : ℕ) → length xs ≤ i → Instruction.Nowhere ≡ step_of (map f xs) i
 unfolding step_of
-in_second xs ys i r h e =
-    let same : length xs + (i - length xs) ≡ i = omega arith in
-    e ∙ sym (get_or-append-add xs ys (i - length xs) Instruction.Nowhere) ∙ ap (λ (k : ℕ). get_or (xs ++ ys) k Instruction.Nowhere) same
+mapped_past f xs i h = sym (get_or_past (map f xs) i Instruction.Nowhere (rw length-map h))

@@ -1,10 +1,10 @@
-// The 156 instructions of a bring-up: with_address and init_hardware. Each function is the bring-up from one section on.
+// The 156 instructions of a bring-up: with_address and init_hardware.
 ghost use Rattle.std.specs.Prelude.{◌≡◌};
-ghost use Rattle.session.specs.Calls.{bring_up_steps, spad_steps};
+ghost use Rattle.session.specs.Calls.{bring_up_steps};
 ghost use Rattle.calls.specs.Calls.{step_of};
-ghost use Rattle.calls.specs.Parts.{opening, map_steps, stage, second_stage, stages, from_setting, from_sequence, from_budget, from_gpio, from_tuning, from_map, from_spads};
+ghost use Rattle.calls.specs.Parts.{stage, from_gpio, from_tuning};
 
-use crate::sections::{budget_reads, budget_steps, calibration, gpio_steps, one};
+use crate::sections::{CLEARING, LAST_TIMING, budget_write, gpio_writes, in_order, timing_reads};
 use crate::tuning::load_tuning_settings;
 use session::Instruction;
 
@@ -26,17 +26,6 @@ const OPENING: [Instruction; 15] = [
     Instruction::WriteQuarter,
     Instruction::Write(0x01, 0xFF),
 ];
-
-fn opening(step: u8) -> Instruction
-    ensures { result ≡ step_of opening step }
-{
-    let i = step as usize;
-    if i < 15 {
-        OPENING[i]
-    } else {
-        Instruction::Nowhere
-    }
-}
 
 // get_spad_info
 const SPAD_INFO: [Instruction; 22] = [
@@ -64,17 +53,6 @@ const SPAD_INFO: [Instruction; 22] = [
     Instruction::Write(0x80, 0x00),
 ];
 
-fn spad_info(step: u8) -> Instruction
-    ensures { result ≡ step_of spad_steps step }
-{
-    let i = step as usize;
-    if i < 22 {
-        SPAD_INFO[i]
-    } else {
-        Instruction::Nowhere
-    }
-}
-
 // The detector map is read, and the selection from it written.
 const MAP: [Instruction; 7] = [
     Instruction::ReadMap,
@@ -86,90 +64,44 @@ const MAP: [Instruction; 7] = [
     Instruction::WriteMap,
 ];
 
-fn map_steps(step: u8) -> Instruction
-    ensures { result ≡ step_of map_steps step }
+// perform_single_ref_calibration, and the sequence that is written before it
+fn stage(sequence: u8, byte: u8) -> [Instruction; 6]
+    ensures { result ≡ stage sequence byte }
 {
-    let i = step as usize;
-    if i < 7 { MAP[i] } else { Instruction::Nowhere }
+    [
+        Instruction::Write(0x01, sequence),
+        Instruction::Write(0x00, byte),
+        Instruction::AwaitStatus,
+        CLEARING[0],
+        CLEARING[1],
+        Instruction::Write(0x00, 0x00),
+    ]
 }
 
-// A calibration and the sequence that is written before it.
-fn stage(sequence: u8, byte: u8, step: u8) -> Instruction
-    ensures { result ≡ step_of (stage sequence byte) step }
-{
-    if step < 1 {
-        one(Instruction::Write(0x01, sequence), step)
-    } else {
-        calibration(byte, step - 1)
-    }
-}
-
-fn second_stage(step: u8) -> Instruction
-    ensures { result ≡ step_of second_stage step }
-{
-    if step < 6 {
-        stage(0x02, 0x01, step)
-    } else {
-        one(Instruction::Write(0x01, 0xE8), step - 6)
-    }
-}
-
-// perform_ref_calibration
-fn stages(step: u8) -> Instruction
-    ensures { result ≡ step_of stages step }
-{
-    if step < 6 {
-        stage(0x01, 0x41, step)
-    } else {
-        second_stage(step - 6)
-    }
-}
-
-// From the setting of the budget on.
-fn from_setting(step: u8) -> Instruction
-    ensures { result ≡ step_of from_setting step }
-{
-    if step < 7 {
-        budget_steps(16, step)
-    } else {
-        stages(step - 7)
-    }
-}
-
-fn from_sequence(step: u8) -> Instruction
-    ensures { result ≡ step_of from_sequence step }
-{
-    if step < 1 {
-        one(Instruction::WriteSteps, step)
-    } else {
-        from_setting(step - 1)
-    }
-}
-
-fn from_budget(step: u8) -> Instruction
-    ensures { result ≡ step_of from_budget step }
-{
-    if step < 6 {
-        budget_reads(step)
-    } else {
-        from_sequence(step - 6)
-    }
-}
-
+// From the pin on: its configuration, the budget, perform_ref_calibration.
 fn from_gpio(step: u8) -> Instruction
     ensures { result ≡ step_of from_gpio step }
 {
-    if step < 5 {
-        gpio_steps(
-            Instruction::Write(0x0A, 0x04),
-            Instruction::WriteAnd(0x84, 0xEF),
-            step,
-        )
-    } else {
-        from_budget(step - 5)
-    }
+    in_order(
+        &[
+            &gpio_writes(
+                Instruction::Write(0x0A, 0x04),
+                Instruction::WriteAnd(0x84, 0xEF),
+            ),
+            &CLEARING,
+            &timing_reads(8),
+            &[LAST_TIMING, Instruction::WriteSteps],
+            &timing_reads(16),
+            &budget_write(16),
+            &stage(0x01, 0x41),
+            &stage(0x02, 0x01),
+            &[Instruction::Write(0x01, 0xE8)],
+        ],
+        step,
+    )
 }
 
+// The tuning rows are no table of instructions, so they stand between two lists of tables.
 fn from_tuning(step: u8) -> Instruction
     ensures { result ≡ step_of from_tuning step }
 {
@@ -180,32 +112,12 @@ fn from_tuning(step: u8) -> Instruction
     }
 }
 
-fn from_map(step: u8) -> Instruction
-    ensures { result ≡ step_of from_map step }
-{
-    if step < 7 {
-        map_steps(step)
-    } else {
-        from_tuning(step - 7)
-    }
-}
-
-fn from_spads(step: u8) -> Instruction
-    ensures { result ≡ step_of from_spads step }
-{
-    if step < 22 {
-        spad_info(step)
-    } else {
-        from_map(step - 22)
-    }
-}
-
 pub(crate) fn with_address(step: u8) -> Instruction
     ensures { result ≡ step_of bring_up_steps step }
 {
-    if step < 15 {
-        opening(step)
+    if step < 44 {
+        in_order(&[&OPENING, &SPAD_INFO, &MAP], step)
     } else {
-        from_spads(step - 15)
+        from_tuning(step - 44)
     }
 }

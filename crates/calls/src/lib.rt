@@ -10,9 +10,11 @@ mod tuning;
 ghost use Rattle.std.specs.Prelude.{◌≡◌};
 ghost use Rattle.calls.specs.Calls.{call_of, program_for, step_of, instruction_at, steps_in};
 
+use sections::looked_up;
 use session::Instruction;
 
 // The calls, by the names of lib.rs; `Nothing` for codes that are none.
+// It stays a variant: public functions take every Call, and an Option beside it would ask more of their callers.
 #[derive(Clone, Copy)]
 pub enum Call {
     Nothing,
@@ -33,33 +35,36 @@ pub enum Call {
     GetBudget,
 }
 
-const CALLS: [Call; 16] = [
-    Call::Nothing,
-    Call::WithAddress,
-    Call::WhoAmI,
-    Call::SetAddress,
-    Call::StartContinuous,
-    Call::StopContinuous,
-    Call::ReadRangeMm,
-    Call::ReadRangeContinuous,
-    Call::ReadRangeSingle,
-    Call::SetBudget,
-    Call::SetThresholds,
-    Call::GetThresholds,
-    Call::SetGpioConfig,
-    Call::ClearInterruptStatus,
-    Call::SetSignalRateLimit,
-    Call::GetBudget,
+// By code: the call, and how many instructions it has.
+const CALLS: [(Call, u8); 16] = [
+    (Call::Nothing, 0),
+    (Call::WithAddress, 156),
+    (Call::WhoAmI, 1),
+    (Call::SetAddress, 1),
+    (Call::StartContinuous, 10),
+    (Call::StopContinuous, 6),
+    (Call::ReadRangeMm, 4),
+    (Call::ReadRangeContinuous, 4),
+    (Call::ReadRangeSingle, 13),
+    (Call::SetBudget, 7),
+    (Call::SetThresholds, 2),
+    (Call::GetThresholds, 2),
+    (Call::SetGpioConfig, 5),
+    (Call::ClearInterruptStatus, 2),
+    (Call::SetSignalRateLimit, 1),
+    (Call::GetBudget, 6),
 ];
+
+const NO_CALL: (Call, u8) = (Call::Nothing, 0);
 
 pub fn call_of(code: u8) -> Call
     ensures { result ≡ call_of code }
 {
-    let i = code as usize;
-    if i < 16 { CALLS[i] } else { Call::Nothing }
+    looked_up(&CALLS, code, NO_CALL).0
 }
 
 // The instruction of a call at a step.
+#[tactic(auto, unfolding(crate::specs::Calls::program_for, crate::specs::Calls::step_of))]
 fn step_of(call: Call, step: u8) -> Instruction
     ensures { result ≡ step_of (program_for call).steps step }
 {
@@ -73,27 +78,25 @@ fn step_of(call: Call, step: u8) -> Instruction
         Call::ReadRangeMm => tables::read_range_mm(step),
         Call::ReadRangeContinuous => tables::read_range_continuous(step),
         Call::ReadRangeSingle => tables::read_range_single(step),
-        Call::SetBudget => sections::budget_steps(8, step),
+        Call::SetBudget => tables::set_budget(step),
         Call::SetThresholds => tables::set_thresholds(step),
         Call::GetThresholds => tables::get_thresholds(step),
         Call::SetGpioConfig => tables::set_gpio_config(step),
-        Call::ClearInterruptStatus => sections::clearing(step),
+        Call::ClearInterruptStatus => tables::clear_interrupt_status(step),
         Call::SetSignalRateLimit => tables::set_signal_rate_limit(step),
-        Call::GetBudget => sections::budget_reads(step),
+        Call::GetBudget => tables::get_budget(step),
     }
 }
-
-const LENGTHS: [u8; 16] = [0, 156, 1, 1, 10, 6, 4, 4, 13, 7, 2, 2, 5, 2, 1, 6];
 
 // How many instructions the call with this code has.
 pub fn steps_in(code: u8) -> u8
     ensures { result ≡ steps_in code }
 {
-    let i = code as usize;
-    if i < 16 { LENGTHS[i] } else { 0 }
+    looked_up(&CALLS, code, NO_CALL).1
 }
 
 // The instruction of the call with this code at a step; past the call's end, or for a code that is no call, there is none.
+#[tactic(auto, using(crate::proofs::Programs::at_code))]
 pub fn instruction_at(code: u8, step: u8) -> Instruction
     ensures { result ≡ instruction_at code step }
 {

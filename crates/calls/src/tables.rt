@@ -1,22 +1,23 @@
-// The instructions of calls 2 to 14, without those that are a shared sequence as they stand.
+// The instructions of calls 2 to 15.
 ghost use Rattle.std.specs.Prelude.{◌≡◌};
-ghost use Rattle.session.specs.Calls.{who_am_i_call, set_address_call, start_continuous_call, stop_continuous_call, read_range_mm_call, read_range_continuous_call, read_range_single_call, set_thresholds_call, get_thresholds_call, set_gpio_config_call, set_signal_rate_limit_call};
+ghost use Rattle.session.specs.Calls.{who_am_i_call, set_address_call, start_continuous_call, stop_continuous_call, read_range_mm_call, read_range_continuous_call, read_range_single_call, set_budget_call, set_thresholds_call, get_thresholds_call, set_gpio_config_call, clear_interrupt_status_call, set_signal_rate_limit_call, get_budget_call};
 ghost use Rattle.calls.specs.Calls.{step_of};
-ghost use Rattle.calls.specs.Parts.{start_steps, range_steps, single_start, single_steps};
 
-use crate::sections::{clearing, gpio_steps, one, preparation, two};
+use crate::sections::{
+    CLEARING, LAST_TIMING, PREPARATION, budget_write, gpio_writes, in_order, row, timing_reads,
+};
 use session::Instruction;
 
 pub(crate) fn who_am_i(step: u8) -> Instruction
     ensures { result ≡ step_of who_am_i_call.steps step }
 {
-    one(Instruction::Read(0xC0, 0), step)
+    row(&[Instruction::Read(0xC0, 0)], step)
 }
 
 pub(crate) fn set_address(step: u8) -> Instruction
     ensures { result ≡ step_of set_address_call.steps step }
 {
-    one(Instruction::WriteAddress, step)
+    row(&[Instruction::WriteAddress], step)
 }
 
 const START: [Instruction; 4] = [
@@ -26,25 +27,10 @@ const START: [Instruction; 4] = [
     Instruction::WriteMode,
 ];
 
-fn start_steps(step: u8) -> Instruction
-    ensures { result ≡ step_of start_steps step }
-{
-    let i = step as usize;
-    if i < 4 {
-        START[i]
-    } else {
-        Instruction::Nowhere
-    }
-}
-
 pub(crate) fn start_continuous(step: u8) -> Instruction
     ensures { result ≡ step_of start_continuous_call.steps step }
 {
-    if step < 6 {
-        preparation(step)
-    } else {
-        start_steps(step - 6)
-    }
+    in_order(&[&PREPARATION, &START], step)
 }
 
 const STOP_CONTINUOUS: [Instruction; 6] = [
@@ -59,87 +45,63 @@ const STOP_CONTINUOUS: [Instruction; 6] = [
 pub(crate) fn stop_continuous(step: u8) -> Instruction
     ensures { result ≡ step_of stop_continuous_call.steps step }
 {
-    let i = step as usize;
-    if i < 6 {
-        STOP_CONTINUOUS[i]
-    } else {
-        Instruction::Nowhere
-    }
-}
-
-// The range read and the clearing after it, behind one more instruction.
-fn range_steps(before: Instruction, step: u8) -> Instruction
-    ensures { result ≡ step_of (range_steps before) step }
-{
-    if step < 2 {
-        two(before, Instruction::ReadRange, step)
-    } else {
-        clearing(step - 2)
-    }
+    row(&STOP_CONTINUOUS, step)
 }
 
 pub(crate) fn read_range_mm(step: u8) -> Instruction
     ensures { result ≡ step_of read_range_mm_call.steps step }
 {
-    range_steps(Instruction::ReadStatus, step)
+    in_order(
+        &[
+            &[Instruction::ReadStatus, Instruction::ReadRange],
+            &CLEARING,
+        ],
+        step,
+    )
 }
+
+// A wait for a range, and its read.
+const AWAITED: [Instruction; 2] = [Instruction::AwaitStatus, Instruction::ReadRange];
 
 pub(crate) fn read_range_continuous(step: u8) -> Instruction
     ensures { result ≡ step_of read_range_continuous_call.steps step }
 {
-    range_steps(Instruction::AwaitStatus, step)
+    in_order(&[&AWAITED, &CLEARING], step)
 }
 
+// What stands between the shared writes of read_range_single_millimeters_blocking and its wait for a range.
 const SINGLE: [Instruction; 3] = [
     Instruction::Write(0x80, 0x00),
     Instruction::Write(0x00, 0x01),
     Instruction::AwaitStart,
 ];
 
-// What stands between the shared writes of read_range_single_millimeters_blocking and its wait for a range.
-fn single_start(step: u8) -> Instruction
-    ensures { result ≡ step_of single_start step }
-{
-    let i = step as usize;
-    if i < 3 {
-        SINGLE[i]
-    } else {
-        Instruction::Nowhere
-    }
-}
-
-fn single_steps(step: u8) -> Instruction
-    ensures { result ≡ step_of single_steps step }
-{
-    if step < 3 {
-        single_start(step)
-    } else {
-        range_steps(Instruction::AwaitStatus, step - 3)
-    }
-}
-
 pub(crate) fn read_range_single(step: u8) -> Instruction
     ensures { result ≡ step_of read_range_single_call.steps step }
 {
-    if step < 6 {
-        preparation(step)
-    } else {
-        single_steps(step - 6)
-    }
+    in_order(&[&PREPARATION, &SINGLE, &AWAITED, &CLEARING], step)
+}
+
+pub(crate) fn set_budget(step: u8) -> Instruction
+    ensures { result ≡ step_of set_budget_call.steps step }
+{
+    in_order(&[&timing_reads(8), &budget_write(8)], step)
 }
 
 pub(crate) fn set_thresholds(step: u8) -> Instruction
     ensures { result ≡ step_of set_thresholds_call.steps step }
 {
-    two(Instruction::WriteLow, Instruction::WriteHigh, step)
+    row(&[Instruction::WriteLow, Instruction::WriteHigh], step)
 }
 
 pub(crate) fn get_thresholds(step: u8) -> Instruction
     ensures { result ≡ step_of get_thresholds_call.steps step }
 {
-    two(
-        Instruction::ReadWord(0x0E, 8),
-        Instruction::ReadWord(0x0C, 10),
+    row(
+        &[
+            Instruction::ReadWord(0x0E, 8),
+            Instruction::ReadWord(0x0C, 10),
+        ],
         step,
     )
 }
@@ -147,11 +109,29 @@ pub(crate) fn get_thresholds(step: u8) -> Instruction
 pub(crate) fn set_gpio_config(step: u8) -> Instruction
     ensures { result ≡ step_of set_gpio_config_call.steps step }
 {
-    gpio_steps(Instruction::WriteFunction, Instruction::WritePolarity, step)
+    in_order(
+        &[
+            &gpio_writes(Instruction::WriteFunction, Instruction::WritePolarity),
+            &CLEARING,
+        ],
+        step,
+    )
+}
+
+pub(crate) fn clear_interrupt_status(step: u8) -> Instruction
+    ensures { result ≡ step_of clear_interrupt_status_call.steps step }
+{
+    row(&CLEARING, step)
 }
 
 pub(crate) fn set_signal_rate_limit(step: u8) -> Instruction
     ensures { result ≡ step_of set_signal_rate_limit_call.steps step }
 {
-    one(Instruction::WriteRate, step)
+    row(&[Instruction::WriteRate], step)
+}
+
+pub(crate) fn get_budget(step: u8) -> Instruction
+    ensures { result ≡ step_of get_budget_call.steps step }
+{
+    in_order(&[&timing_reads(8), &[LAST_TIMING]], step)
 }

@@ -1,8 +1,8 @@
 // The tuning settings of load_tuning_settings.
-ghost use Rattle.std.specs.Prelude.{◌≡◌};
+ghost use Rattle.std.specs.Prelude.{◌≡◌, map};
 ghost use Rattle.session.specs.Calls.{tuning, rows};
 ghost use Rattle.calls.specs.Calls.{step_of};
-ghost use Rattle.calls.specs.Parts.{tuning_row};
+ghost use Rattle.calls.specs.Parts.{row_write};
 
 use session::Instruction;
 
@@ -90,21 +90,20 @@ const TUNING: [[u8; 2]; 80] = [
     [0x80, 0x00],
 ];
 
-// A row by its number; past the end, zeros.
-fn tuning_row(i: u8) -> [u8; 2]
-    ensures { result ≡ tuning_row i }
+// The write of the row at a step; past the last there is none.
+#[tactic(auto, using(crate::proofs::Steps::mapped, crate::proofs::Steps::mapped_past))]
+fn row_write(rows: &[[u8; 2]], step: u8) -> Instruction
+    ensures { result ≡ step_of (map row_write rows.now) step }
 {
-    let i = i as usize;
-    if i < 80 { TUNING[i] } else { [0; 2] }
+    match rows.get(step as usize) {
+        Some(row) => Instruction::Write(row[0], row[1]),
+        None => Instruction::Nowhere,
+    }
 }
 
+#[tactic(auto, unfolding(session::specs::Calls::tuning))]
 pub(crate) fn load_tuning_settings(step: u8) -> Instruction
     ensures { result ≡ step_of (rows tuning) step }
 {
-    let row = tuning_row(step);
-    if step < 80 {
-        Instruction::Write(row[0], row[1])
-    } else {
-        Instruction::Nowhere
-    }
+    row_write(&TUNING, step)
 }

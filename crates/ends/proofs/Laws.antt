@@ -2,9 +2,8 @@
 use mathlib.Core.Path.{◌≡◌, refl}
 use Prim.Native.Nat.{ℕ, zero, suc, ◌≤◌}
 use Rattle.session.specs.declared.Session.{Session}
-use Rattle.session.specs.Instructions.{Final, failure, range_slot}
-use Rattle.session.specs.Steps.{slot_word}
-use Rattle.session.specs.Calls.{finishes, by_code, range_result}
+use Rattle.session.specs.Instructions.{Final, failure}
+use Rattle.session.specs.Calls.{by_code, range_result}
 use Rattle.session.specs.Machine.{context_of}
 use Rattle.calls.specs.declared.Call.{Call}
 use Rattle.calls.specs.Calls.{most_for}
@@ -26,12 +25,6 @@ pub thresholds_fit : (x : Call) (a : ℕ) → x ≡ Call.SetThresholds → a ≤
 unfolding most_for
 thresholds_fit x a e h = rw e at h
 
-pub ruleset fitting = (new_address_fits, address_fits, thresholds_fit)
-
--- the range word, or the failure of its read
-module _ (s : Session) where
-  pub no_failure : s.failed ≡ 0 → range_result (context_of s) ≡ finishes (slot_word range_slot) (context_of s)
-  no_failure e = rw e refl
-
-  pub read_failure : (s.failed ≡ 0 → ⊥) → range_result (context_of s) ≡ failure s.failed
-  read_failure n = failed_code s.failed _ n
+-- the failure of a range read
+pub read_failure : (s : Session) → (s.failed ≡ 0 → ⊥) → range_result (context_of s) ≡ failure s.failed
+read_failure s n = failed_code s.failed _ n

@@ -1,13 +1,23 @@
 -- The two ends of a call: what its arguments decide, and how it ends after its last instruction.
-use Rattle.std.specs.Prelude.{◌||◌, ℕ, ◌+◌, ◌*◌, ltb}
+use Rattle.std.specs.Prelude.{◌||◌, ℕ, ◌+◌, ◌*◌, ltb, Result, Ok, Err}
+use Rattle.session.specs.declared.Driver.{Driver}
 use Rattle.session.specs.Instructions.{Final, success, failure, Verdict, onward, stop, test, wrong_address, declines}
 use Rattle.session.specs.Steps.{too_short}
 use Rattle.threshold.specs.Threshold.{decode_threshold}
-use Rattle.ends.specs.declared.End.{End}
+use Rattle.ends.specs.declared.Finished.{Finished}
+use Rattle.ends.specs.declared.RangeFailure.{RangeFailure}
 
-abbrev pub end_of : Final → End
-end_of (success v d) = End.Success v d
-end_of (failure e) = End.Failure e
+-- a success: its value and the driver's fields
+abbrev pub finishes : ℕ → Driver → Finished
+finishes v d = record { value = v; driver = d }
+
+-- a call ends in that, or in the failure code of its range read
+abbrev pub Ended : Type 0
+Ended = Result Finished RangeFailure
+
+abbrev pub end_of : Final → Ended
+end_of (success v d) = Ok (finishes v d)
+end_of (failure e) = Err (record { 0 = e })
 
 -- call 3's test, and call 9's
 abbrev pub address_entry : ℕ → Verdict

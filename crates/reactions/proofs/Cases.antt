@@ -7,7 +7,7 @@ use Rattle.session.specs.declared.Session.{Session}
 use Rattle.session.specs.declared.Instruction.{Instruction}
 use Rattle.steps.specs.declared.Kind.{Kind}
 use Rattle.steps.specs.declared.Next.{Next}
-use Rattle.ends.specs.declared.End.{End}
+use Rattle.ends.specs.Ends.{Ended}
 use Rattle.reactions.specs.declared.Way.{Way}
 use Rattle.reactions.specs.declared.Plan.{Plan}
 use Rattle.reactions.specs.declared.Outcome.{Outcome}
@@ -35,8 +35,8 @@ case_failed x k f s r e p = p ∙ sym (ap (λ (y : Kind). failed_way y f s) e)
 pub case_plan : (x k : Way) (i : Instruction) (s : Session) (r : Plan) → x ≡ k → r ≡ plan_of k i s → r ≡ plan_of x i s
 case_plan x k i s r e p = p ∙ sym (ap (λ (y : Way). plan_of y i s) e)
 
-pub case_end : (x k : End) (s : Session) (r : Outcome) → x ≡ k → r ≡ outcome_of (ending k s) → r ≡ outcome_of (ending x s)
-case_end x k s r e p = p ∙ sym (ap (λ (y : End). outcome_of (ending y s)) e)
+pub case_end : (x k : Ended) (s : Session) (r : Outcome) → x ≡ k → r ≡ outcome_of (ending k s) → r ≡ outcome_of (ending x s)
+case_end x k s r e p = p ∙ sym (ap (λ (y : Ended). outcome_of (ending y s)) e)
 
 pub case_act : (x k : Plan) (s : Session) (r : Outcome) → x ≡ k → r ≡ outcome_of (acting k s) → r ≡ outcome_of (acting x s)
 case_act x k s r e p = p ∙ sym (ap (λ (y : Plan). outcome_of (acting y s)) e)

@@ -1,6 +1,6 @@
 -- Where a record takes a session, in four steps over the plain data of the instruction that it stands at: what is kept of a reply, which way it
 -- leads, what that comes to, and the outcome. That this is the machine's `react` is proved. A course is a way with the session that goes it.
-use Rattle.std.specs.Prelude.{Bool, true, false, cond, ◌&&◌, ◌≡◌, List, ℕ, suc, ◌+◌, ◌≤◌, eqb, ltb}
+use Rattle.std.specs.Prelude.{Bool, true, false, cond, ◌&&◌, ◌≡◌, List, ℕ, suc, ◌+◌, ◌≤◌, eqb, ltb, Ok, Err}
 use Rattle.session.specs.declared.Session.{Session}
 use Rattle.session.specs.declared.Answer.{Answer}
 use Rattle.session.specs.declared.Instruction.{Instruction}
@@ -12,7 +12,7 @@ use Rattle.session.specs.Machine.{Outcome as Result, sent, refused, broken, cont
 use Rattle.calls.specs.Calls.{instruction_at, steps_in}
 use Rattle.steps.specs.declared.Kind.{Kind}
 use Rattle.steps.specs.declared.Next.{Next}
-use Rattle.ends.specs.declared.End.{End}
+use Rattle.ends.specs.Ends.{Ended}
 use Rattle.steps.specs.declared.Shape.{Shape}
 use Rattle.steps.specs.Steps.{shape_of, most_at, verdict_of, settled, keeping}
 use Rattle.checks.specs.Sound.{Sound, limit_of}
@@ -145,9 +145,9 @@ abbrev pub SoundIf : Bool → Session → Type 0
 SoundIf on s = on ≡ true → Sound s
 
 -- a call ends
-unfoldable pub ending : End → Session → Result
-ending (End.Success v d) s = answering (Answer.Done v) d s
-ending (End.Failure e) s = giving (Answer.BusError e) s
+unfoldable pub ending : Ended → Session → Result
+ending (Ok x) s = answering (Answer.Done x.value) x.driver s
+ending (Err e) s = giving (Answer.BusError e.0) s
 
 unfoldable pub concluding : Session → Result
 concluding s = conclude ((program_of s.code).final (context_of s)) s

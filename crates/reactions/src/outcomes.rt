@@ -9,7 +9,7 @@ ghost use Rattle.reactions.specs.Outcome.{outcome_of, no_transfer};
 ghost use Rattle.reactions.specs.Reactions.{moves, SoundIf, most_in, ending, concluding, acting};
 
 use crate::{Given, Outcome, Plan};
-use ends::End;
+use ends::{Finished, RangeFailure};
 use session::{Answer, Driver, Instruction, Session, Transfer};
 
 // All that a call carried becomes zero.
@@ -114,12 +114,12 @@ fn give(x: Answer, s: Session) -> Outcome
     answer(x, steps::held(s.code, driver), s)
 }
 
-fn end(how: End, s: Session) -> Outcome
+fn end(how: Result<Finished, RangeFailure>, s: Session) -> Outcome
     ensures { result ≡ outcome_of (ending how s) }
 {
     match how {
-        End::Success(value, driver) => answer(Answer::Done(value), driver, s),
-        End::Failure(code) => give(Answer::BusError(code), s),
+        Ok(left) => answer(Answer::Done(left.value), left.driver, s),
+        Err(RangeFailure(code)) => give(Answer::BusError(code), s),
     }
 }
 

@@ -1,30 +1,36 @@
 -- Facts that the proofs of single functions cite.
-use mathlib.Core.Path.{◌≡◌, refl, ap}
-use mathlib.Core.List.{List, [], ◌∷◌}
-use Prim.Native.Nat.{ℕ, zero, suc, ◌+◌, ◌≤◌}
-use native.Mathlib.Nat.{le_of_suc-le-suc, not-suc-le-zero}
+use mathlib.Core.Path.{◌≡◌, refl}
+use mathlib.Core.List.{List, [], ◌∷◌, map}
+use Prim.Native.Nat.{ℕ, zero, suc, ◌+◌, ◌-◌, ◌<◌}
+use Rattle.std.proofs.Common.{add-one, add-zero}
+use Rattle.steps.specs.declared.shapes.TimingRead.{TimingRead}
 use native.Mathlib.Omega.{arith}
-use lib.ListN.{length, set}
+use lib.ListN.{length, set, get_or}
 use Rattle.session.specs.Bus.{byte}
-use Rattle.session.specs.Instructions.{bytes_from}
+use Rattle.session.specs.Instructions.{bytes_from, put}
 
--- a store past the end is none
-pub set_past : {A : Type 0} (l : List A) (i : ℕ) (v : A) → length l ≤ i → l ≡ set l i v
-set_past [] i v h = refl
-set_past (x ∷ l) zero v h = absurd (not-suc-le-zero h)
-set_past (x ∷ l) (suc i) v h = ap (λ t. x ∷ t) (set_past l i v (le_of_suc-le-suc h))
+-- the parts of a budget read of a table are those of the table's parts
+pub by_parts : (t : List TimingRead) (n : ℕ) (d : TimingRead)
+    → get_or t n d ≡ record { register = get_or (map (λ (r : TimingRead). r.register) t) n d.register; length = get_or (map (λ (r : TimingRead). r.length) t) n d.length; place = get_or (map (λ (r : TimingRead). r.place) t) n d.place }
+by_parts [] n d = refl
+by_parts (r ∷ t) zero d = refl
+by_parts (r ∷ t) (suc n) d = by_parts t n d
 
--- the eight bytes of the budget replies
-pub eight_from : (k : ℕ) (bs : List ℕ) (b₀ b₁ b₂ b₃ b₄ b₅ b₆ b₇ : ℕ)
-    → b₀ ≡ byte k bs → b₁ ≡ byte (k + 1) bs → b₂ ≡ byte (k + 2) bs → b₃ ≡ byte (k + 3) bs
-    → b₄ ≡ byte (k + 4) bs → b₅ ≡ byte (k + 5) bs → b₆ ≡ byte (k + 6) bs → b₇ ≡ byte (k + 7) bs
-    → b₀ ∷ b₁ ∷ b₂ ∷ b₃ ∷ b₄ ∷ b₅ ∷ b₆ ∷ b₇ ∷ [] ≡ bytes_from k 8 bs
-eight_from k bs b₀ b₁ b₂ b₃ b₄ b₅ b₆ b₇ h₀ h₁ h₂ h₃ h₄ h₅ h₆ h₇ =
-    let e₁ : suc k ≡ k + 1 = omega arith in
-    let e₂ : suc (k + 1) ≡ k + 2 = omega arith in
-    let e₃ : suc (k + 2) ≡ k + 3 = omega arith in
-    let e₄ : suc (k + 3) ≡ k + 4 = omega arith in
-    let e₅ : suc (k + 4) ≡ k + 5 = omega arith in
-    let e₆ : suc (k + 5) ≡ k + 6 = omega arith in
-    let e₇ : suc (k + 6) ≡ k + 7 = omega arith in
-    rw (h₀, h₁, h₂, h₃, h₄, h₅, h₆, h₇, e₁, e₂, e₃, e₄, e₅, e₆, e₇) refl
+-- as many bytes as are asked for, each the byte at its place
+pub bytes_at : (k : ℕ) (bs xs : List ℕ) (n : ℕ) → length xs ≡ n → ((i : ℕ) → i < n → get_or xs i 0 ≡ byte (k + i) bs) → xs ≡ bytes_from k n bs
+bytes_at k bs [] zero e h = refl
+bytes_at k bs [] (suc n) e h = absurd (omega arith)
+bytes_at k bs (x ∷ xs) zero e h = absurd (omega arith)
+bytes_at k bs (x ∷ xs) (suc n) e h =
+    let later : (i : ℕ) → i < n → get_or xs i 0 ≡ byte (suc k + i) bs = λ i l. let same : k + suc i ≡ suc k + i = omega arith in rw same at (h (suc i) (omega arith)) in
+    let rest = bytes_at (suc k) bs xs n (omega arith) later in
+    let here : x ≡ byte k bs = rw add-zero at (h 0 (omega arith)) in
+    cc
+
+-- the bytes that are left, once the one at k is stored
+pub stored : (l : List ℕ) (slot k n : ℕ) (bs : List ℕ) → k < n
+    → put (set l (slot + k) (byte k bs)) (slot + (k + 1)) (bytes_from (k + 1) (n - (k + 1)) bs) ≡ put l (slot + k) (bytes_from k (n - k) bs)
+stored l slot k n bs h =
+    let e : n - k ≡ suc (n - (k + 1)) = omega arith in
+    let eᵢ : slot + (k + 1) ≡ suc (slot + k) = omega arith in
+    rw (e, eᵢ, add-one) refl

@@ -6,8 +6,10 @@ use Rattle.session.specs.declared.Session.{Session}
 use Rattle.session.specs.Bus.{Condition, detector_ready, status_ready, started, wait_register}
 use Rattle.session.specs.Instructions.{Context, stop_answer, Verdict, onward, leap, stop, test, Op, write, read, wait, range, range_slot, timing_slot, budget_in, put, bytes_from}
 use Rattle.session.specs.Machine.{held_by}
+use Rattle.session.specs.Steps.{timing_register, timing_length, timing_place}
 use Rattle.steps.specs.declared.Kind.{Kind}
 use Rattle.steps.specs.declared.Shape.{Shape}
+use Rattle.steps.specs.declared.shapes.TimingRead.{TimingRead}
 use Rattle.steps.specs.declared.Next.{Next}
 
 abbrev pub kind_of : Condition → Kind
@@ -23,6 +25,10 @@ reading reg n slot over = record { kind = Kind.Read; register = reg; reads = n; 
 
 abbrev pub awaiting : Kind → ℕ → Shape
 awaiting kind reg = record { kind = kind; register = reg; reads = 1; slot = 0; over = 0 }
+
+-- 01: "Budget reads, in order: 0x01, 0x51, 0x71, 0x50, 0x46, 0x70.": the register, length and place of each, by its number
+unfoldable pub timing_read : ℕ → TimingRead
+timing_read n = record { register = timing_register n; length = timing_length n; place = timing_place n }
 
 unfoldable pub shape_of : Op → Shape
 shape_of (write reg bytes n over after) = writing reg n over

@@ -7,10 +7,10 @@ mod values;
 
 pub use kept::keep;
 use session::Answer;
-pub use shapes::{shape_of, timing_length, timing_register};
+pub use shapes::{TimingRead, shape_of, timing_read};
 pub use values::{held, oscillator_word, timed_period, timing_in, word_to_set};
 
-#[derive(Clone, Copy)]
+#[derive(Clone, Copy, PartialEq, Eq, Debug)]
 pub enum Kind {
     Write,
     Read,
@@ -32,7 +32,7 @@ pub struct Shape {
     pub over: u8,
 }
 
-// What a good reply, or the arguments of a call, decide.
+// What a good reply, or the arguments of a call, decide. Three cases, so no Option or Result: a leap is no error.
 #[derive(Clone, Copy)]
 pub enum Next {
     Onward,

@@ -1,7 +1,7 @@
 // The shape of each instruction.
 ghost use Rattle.std.specs.Prelude.{◌≡◌, ◌+◌};
 ghost use Rattle.session.specs.Steps.{op_of, timing_register, timing_length, timing_place, over_last};
-ghost use Rattle.steps.specs.Steps.{shape_of, writing, reading, awaiting};
+ghost use Rattle.steps.specs.Steps.{shape_of, writing, reading, awaiting, timing_read};
 
 use crate::{Kind, Shape};
 use session::Instruction;
@@ -43,42 +43,73 @@ fn awaiting(kind: Kind, register: u8) -> Shape
     }
 }
 
-const TIMING_REGISTERS: [u8; 7] = [0x00, 0x01, 0x51, 0x71, 0x50, 0x46, 0x70];
-
-// The register of a budget read, by its number from 1 on.
-pub fn timing_register(n: u8) -> u8
-    ensures { result ≡ timing_register n }
-{
-    let i = n as usize;
-    if i < 7 { TIMING_REGISTERS[i] } else { 0 }
+// A budget read: its register, how many bytes it has, and where they stand among the eight of all six.
+#[derive(Clone, Copy)]
+pub struct TimingRead {
+    pub register: u8,
+    pub length: u8,
+    pub place: u8,
 }
 
-const TIMING_LENGTHS: [u8; 7] = [0, 1, 2, 2, 1, 1, 1];
+// A word has two bytes.
+const WORD: u8 = 2;
 
-pub fn timing_length(n: u8) -> u8
-    ensures { result ≡ timing_length n }
+const NO_READ: TimingRead = TimingRead {
+    register: 0x00,
+    length: 0,
+    place: 0,
+};
+
+const TIMING_READS: [TimingRead; 7] = [
+    NO_READ,
+    TimingRead {
+        register: 0x01,
+        length: 1,
+        place: 0,
+    },
+    TimingRead {
+        register: 0x51,
+        length: WORD,
+        place: 1,
+    },
+    TimingRead {
+        register: 0x71,
+        length: WORD,
+        place: 3,
+    },
+    TimingRead {
+        register: 0x50,
+        length: 1,
+        place: 5,
+    },
+    TimingRead {
+        register: 0x46,
+        length: 1,
+        place: 6,
+    },
+    TimingRead {
+        register: 0x70,
+        length: 1,
+        place: 7,
+    },
+];
+
+// A budget read by its number from 1 on.
+pub fn timing_read(n: u8) -> TimingRead
+    ensures { result ≡ timing_read n }
 {
-    let i = n as usize;
-    if i < 7 { TIMING_LENGTHS[i] } else { 0 }
+    TIMING_READS.get(n as usize).copied().unwrap_or(NO_READ)
 }
 
-const TIMING_PLACES: [u8; 7] = [0, 0, 1, 3, 5, 6, 7];
-
-// Where its bytes stand among the eight of the six reads.
-fn timing_place(n: u8) -> u8
-    ensures { result ≡ timing_place n }
-{
-    let i = n as usize;
-    if i < 7 { TIMING_PLACES[i] } else { 0 }
-}
-
+#[tactic(auto, unfolding(crate::specs::Steps::timing_read))]
 fn timing_shape(n: u8, slot: u8) -> Shape
     ensures { result ≡ reading (timing_register n) (timing_length n) (slot + timing_place n) 0 }
 {
+    let read = timing_read(n);
     reading(
-        timing_register(n),
-        timing_length(n),
-        slot as u16 + timing_place(n) as u16,
+        read.register,
+        read.length,
+        slot as u16 + read.place as u16,
         0,
     )
 }
@@ -96,6 +127,7 @@ fn last_shape(slot: u8) -> Shape
     reading(0x70, 1, slot as u16 + 7, over_last(slot))
 }
 
+#[tactic(auto, unfolding(crate::specs::Steps::shape_of))]
 fn range_shape() -> Shape
     ensures { result ≡ shape_of (op_of Instruction.ReadRange) }
 {
@@ -108,21 +140,21 @@ fn range_shape() -> Shape
     }
 }
 
+#[tactic(auto, unfolding(crate::specs::Steps::shape_of))]
 pub fn shape_of(i: Instruction) -> Shape
     ensures { result ≡ shape_of (op_of i) }
 {
     match i {
         Instruction::Nowhere => writing(0x00, 1, 0),
-        Instruction::Write(register, _) => writing(register, 1, 0),
-        Instruction::WriteOr(register, _) => writing(register, 1, 0),
-        Instruction::WriteAnd(register, _) => writing(register, 1, 0),
+        Instruction::Write(register, _)
+        | Instruction::WriteOr(register, _)
+        | Instruction::WriteAnd(register, _) => writing(register, 1, 0),
         Instruction::Read(register, slot) => reading(register, 1, slot as u16, 0),
         Instruction::ReadWord(register, slot) => reading(register, 2, slot as u16, 0),
         Instruction::Identify => reading(0xC0, 1, 0, 0),
         Instruction::ReadMap => reading(0xB0, 6, 16, 0),
         Instruction::WriteMap => writing(0xB0, 6, 0),
-        Instruction::WriteQuarter => writing(0x44, 1, 0),
-        Instruction::WriteRate => writing(0x44, 1, 0),
+        Instruction::WriteQuarter | Instruction::WriteRate => writing(0x44, 1, 0),
         Instruction::WriteStop => writing(0x91, 1, 0),
         Instruction::Prepared => writing(0x80, 1, 2),
         Instruction::ReadOscillator => reading(0xF8, 2, 8, 0),

@@ -7,15 +7,8 @@ ghost use Rattle.session.specs.Machine.{held_by, context_of};
 use budget::{DssTerm, WordOr};
 use clock::Microseconds;
 use session::{Driver, Session};
+use std::array::from_fn;
 use timing::TimingRegisters;
-
-// A carried byte; past the end there is none.
-fn carried_byte(carried: [u8; 24], k: u32) -> u8
-    ensures { result ≡ get_or carried k 0 }
-{
-    let i = k as usize;
-    if i < 24 { carried[i] } else { 0 }
-}
 
 // The driver's fields that a call leaves if it does not succeed: a bring-up leaves none.
 pub fn held(code: u8, driver: Driver) -> Driver
@@ -33,21 +26,11 @@ pub fn held(code: u8, driver: Driver) -> Driver
     }
 }
 
-// Eight carried bytes from a slot on.
+// Eight carried bytes from a slot on; past the last slot there is none.
 fn eight_bytes(slot: u8, carried: [u8; 24]) -> [u8; 8]
     ensures { result ≡ bytes_from slot 8 carried }
 {
-    let k = slot as u32;
-    [
-        carried_byte(carried, k),
-        carried_byte(carried, k + 1),
-        carried_byte(carried, k + 2),
-        carried_byte(carried, k + 3),
-        carried_byte(carried, k + 4),
-        carried_byte(carried, k + 5),
-        carried_byte(carried, k + 6),
-        carried_byte(carried, k + 7),
-    ]
+    from_fn(|k| carried.get(slot as usize + k).copied().unwrap_or(0))
 }
 
 // The six budget replies that are carried from a slot on.

@@ -27,12 +27,14 @@ pub(crate) fn rate_in(rate: RateWord) -> u16
     }
 }
 
+#[tactic(auto, using(crate::proofs::Laws::or_mask))]
 pub(crate) fn or_byte(x: u8, mask: u8) -> u8
     ensures { result ≡ or_byte x mask }
 {
     x | mask
 }
 
+#[tactic(auto, using(crate::proofs::Laws::and_mask))]
 pub(crate) fn and_byte(x: u8, mask: u8) -> u8
     ensures { result ≡ and_byte x mask }
 {
@@ -44,13 +46,7 @@ pub(crate) fn new_map(s: Session) -> [u8; 6]
     ensures { result ≡ new_map (context_of s) }
 {
     let info = s.carried[3];
-    let map = [
-        s.carried[16],
-        s.carried[17],
-        s.carried[18],
-        s.carried[19],
-        s.carried[20],
-        s.carried[21],
-    ];
+    let mut map = [0; 6];
+    map.copy_from_slice(&s.carried[16..22]);
     spad::select_spads(map, info % 128, info / 128 % 2 != 0).map
 }

@@ -1,5 +1,5 @@
 // What a good reply to each instruction decides.
-#![tactic(auto)]
+#![tactic(auto, unfolding(steps::specs::Steps::settled))]
 
 ghost use Rattle.std.specs.Prelude.{◌≡◌};
 ghost use Rattle.session.specs.Machine.{context_of};
@@ -35,10 +35,11 @@ fn prepared(period: u32) -> Next
 }
 
 // A period that does not fit 32 bits is place 1.
+#[tactic(auto, unfolding(crate::specs::Verdicts::timed_next))]
 fn timed(period: u64) -> Next
     ensures { result ≡ timed_next period }
 {
-    if 4294967295 < period {
+    if period > u32::MAX as u64 {
         Next::Stop(Answer::Panic(1))
     } else {
         Next::Onward
@@ -119,35 +120,35 @@ pub fn verdict(i: Instruction, s: Session) -> Next
     ensures { result ≡ settled (verdict_of (op_of i) (context_of s)) }
 {
     match i {
-        Instruction::Nowhere => Next::Onward,
-        Instruction::Write(_, _) => Next::Onward,
-        Instruction::WriteOr(_, _) => Next::Onward,
-        Instruction::WriteAnd(_, _) => Next::Onward,
-        Instruction::Read(_, _) => Next::Onward,
-        Instruction::ReadWord(_, _) => Next::Onward,
         Instruction::Identify => identified(s.carried[0]),
-        Instruction::ReadMap => Next::Onward,
-        Instruction::WriteMap => Next::Onward,
-        Instruction::WriteQuarter => Next::Onward,
-        Instruction::WriteRate => Next::Onward,
-        Instruction::WriteStop => Next::Onward,
         Instruction::Prepared => prepared(s.a),
         Instruction::ReadOscillator => oscillated(s),
-        Instruction::WritePeriod => Next::Onward,
-        Instruction::WriteMode => Next::Onward,
-        Instruction::WriteAddress => Next::Onward,
-        Instruction::WriteLow => Next::Onward,
-        Instruction::WriteHigh => Next::Onward,
-        Instruction::WriteFunction => Next::Onward,
-        Instruction::WritePolarity => Next::Onward,
         Instruction::ReadStatus => ready(s.carried[2]),
         Instruction::ReadTiming(n, slot) => timing_read(n, slot, s),
         Instruction::ReadLast(slot) => last_read(slot, s),
         Instruction::WriteSteps => steps_written(s.own),
-        Instruction::WriteWord(_) => Next::Onward,
-        Instruction::AwaitDetector => Next::Onward,
-        Instruction::AwaitStatus => Next::Onward,
-        Instruction::AwaitStart => Next::Onward,
-        Instruction::ReadRange => Next::Onward,
+        Instruction::Nowhere
+        | Instruction::Write(_, _)
+        | Instruction::WriteOr(_, _)
+        | Instruction::WriteAnd(_, _)
+        | Instruction::Read(_, _)
+        | Instruction::ReadWord(_, _)
+        | Instruction::ReadMap
+        | Instruction::WriteMap
+        | Instruction::WriteQuarter
+        | Instruction::WriteRate
+        | Instruction::WriteStop
+        | Instruction::WritePeriod
+        | Instruction::WriteMode
+        | Instruction::WriteAddress
+        | Instruction::WriteLow
+        | Instruction::WriteHigh
+        | Instruction::WriteFunction
+        | Instruction::WritePolarity
+        | Instruction::WriteWord(_)
+        | Instruction::AwaitDetector
+        | Instruction::AwaitStatus
+        | Instruction::AwaitStart
+        | Instruction::ReadRange => Next::Onward,
     }
 }

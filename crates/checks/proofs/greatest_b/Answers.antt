@@ -4,15 +4,15 @@ use mathlib.Core.Path.{◌∙◌}
 use Prim.Native.Nat.{ℕ}
 use native.Mathlib.Omega.{arith}
 use Rattle.session.specs.Calls.{greatest}
-use Rattle.calls.proofs.Programs.{get_d_map}
+use lib.ListN.{get_or-map}
 use Rattle.session.proofs.Facts.{past}
 use Rattle.checks.specs.Sound.{greatest_b}
 use Rattle.checks.proofs.greatest_b.Goals as goal
 
 pub returns-then-i-lt16 : goal.returns-then-i-lt16
 unfolding greatest_b greatest
-returns-then-i-lt16 c = get_d_map (λ (x : ℕ × ℕ). x.1) greatest c.args.code (0, 0)
+returns-then-i-lt16 c = get_or-map (λ (x : ℕ × ℕ). x.1) greatest c.args.code (0, 0)
 
 pub returns-else-i-lt16 : goal.returns-else-i-lt16
 unfolding greatest_b greatest
-returns-else-i-lt16 c = past (map (λ (x : ℕ × ℕ). x.1) greatest) c.args.code 0 (omega arith) ∙ get_d_map (λ (x : ℕ × ℕ). x.1) greatest c.args.code (0, 0)
+returns-else-i-lt16 c = past (map (λ (x : ℕ × ℕ). x.1) greatest) c.args.code 0 (omega arith) ∙ get_or-map (λ (x : ℕ × ℕ). x.1) greatest c.args.code (0, 0)

@@ -3,10 +3,10 @@ use Rattle.reactions.specs.Reactions.{ending}
 use Rattle.reactions.proofs.Cases.{cases}
 use Rattle.reactions.proofs.outcomes.end.Goals as goal
 
-pub returns-in-Success : goal.returns-in-Success
+pub returns-in-Ok : goal.returns-in-Ok
 unfolding ending
-returns-in-Success c = search cases
+returns-in-Ok c = search cases
 
-pub returns-in-Failure : goal.returns-in-Failure
+pub returns-in-Err : goal.returns-in-Err
 unfolding ending
-returns-in-Failure c = search cases
+returns-in-Err c = search cases

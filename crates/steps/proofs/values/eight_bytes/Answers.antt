@@ -1,8 +1,9 @@
 -- `steps::values::eight_bytes` meets its contract.
-use Rattle.steps.proofs.Laws.{eight_from}
+use Rattle.std.proofs.Common.{◌≡◌, ℕ, ◌+◌, ◌<◌, get_or, rules}
+use Rattle.steps.proofs.Laws.{bytes_at}
 use Rattle.steps.proofs.values.eight_bytes.Goals as goal
 
 pub returns : goal.returns
 returns c =
-    let a = c.args in
-    eight_from a.slot a.carried _ _ _ _ _ _ _ _ c.carried_byte.ensures c.carried_byte-2.ensures c.carried_byte-3.ensures c.carried_byte-4.ensures c.carried_byte-5.ensures c.carried_byte-6.ensures c.carried_byte-7.ensures c.carried_byte-8.ensures
+    let each : (k : ℕ) → k < 8 → get_or c.from_fn.result k 0 ≡ get_or c.args.carried (c.args.slot + k) 0 = λ k h. (let called = c.from_fn.ensures.items.at k 0 h in search rules) in
+    bytes_at c.args.slot c.args.carried c.from_fn.result 8 c.from_fn.ensures.items.long each
