@@ -10,10 +10,9 @@ ghost use Rattle.steps.specs.Steps.{settled};
 ghost use Rattle.ends.specs.Ends.{finishes, end_of, address_entry, budget_entry, thresholds_of};
 
 use calls::Call;
-use rate::RateWord;
 use session::{Answer, Driver, Session};
 use steps::{Next, held};
-use threshold::{Millimeters, RawThreshold, ThresholdCheck};
+use threshold::{InvalidArgument, Millimeters, RawThreshold};
 use timing::word;
 
 // What a call that succeeds leaves: its value and the driver's fields.
@@ -48,21 +47,21 @@ fn budget_entry(budget: u32) -> Next
     }
 }
 
-fn by_thresholds(check: ThresholdCheck) -> Next
+fn by_thresholds(check: Result<(), InvalidArgument>) -> Next
     ensures { result ≡ settled (by_thresholds check) }
 {
     match check {
-        ThresholdCheck::Valid => Next::Onward,
-        ThresholdCheck::InvalidArgument => Next::Stop(Answer::InvalidArgument),
+        Ok(()) => Next::Onward,
+        Err(InvalidArgument) => Next::Stop(Answer::InvalidArgument),
     }
 }
 
-fn by_rate(rate: RateWord) -> Next
+fn by_rate(rate: Option<u16>) -> Next
     ensures { result ≡ settled (by_rate rate) }
 {
     match rate {
-        RateWord::Word(_w) => Next::Onward,
-        RateWord::Refused => Next::Stop(Answer::False),
+        Some(_) => Next::Onward,
+        None => Next::Stop(Answer::False),
     }
 }
 

@@ -4,7 +4,7 @@ ghost use Rattle.session.specs.Instructions.{bytes_from, timing_in, budget_in};
 ghost use Rattle.session.specs.Steps.{slot_word, budget_to_set, word_to_set};
 ghost use Rattle.session.specs.Machine.{held_by, context_of};
 
-use budget::{DssTerm, WordOr};
+use budget::{DssTerm, NoWord};
 use clock::Microseconds;
 use session::{Driver, Session};
 use std::array::from_fn;
@@ -44,7 +44,9 @@ pub fn timing_in(slot: u8, carried: [u8; 24]) -> TimingRegisters
 pub(crate) fn budget_in(slot: u8, carried: [u8; 24]) -> u32
     ensures { result ≡ budget_in slot carried }
 {
-    timing::time_in(budget::measurement_timing_budget(timing_in(slot, carried))).0
+    budget::measurement_timing_budget(timing_in(slot, carried))
+        .unwrap_or(Microseconds(0))
+        .0
 }
 
 // The budget that is set: a bring-up's own, whose second reads are kept from slot 16 on, or the argument of call 9.
@@ -54,7 +56,7 @@ fn budget_to_set(slot: u8, s: Session) -> u32
     if slot == 16 { s.own } else { s.a }
 }
 
-pub fn word_to_set(slot: u8, s: Session) -> WordOr
+pub fn word_to_set(slot: u8, s: Session) -> Result<u16, NoWord>
     ensures { result ≡ word_to_set slot (context_of s) }
 {
     let carried = s.carried;

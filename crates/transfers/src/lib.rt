@@ -11,7 +11,7 @@ ghost use Rattle.session.specs.Instructions.{send_of, bytes_from};
 ghost use Rattle.session.specs.Steps.{op_of, word_bytes, long_bytes, timing_register, timing_length};
 ghost use Rattle.steps.specs.Steps.{context_at, most_at};
 
-use crate::written::{and_byte, new_map, or_byte, rate_in, word_in};
+use crate::written::{and_byte, new_map, or_byte};
 use session::{Instruction, Session, Transfer};
 use std::array::from_fn;
 use steps::{held, oscillator_word, timed_period, timing_read, word_to_set};
@@ -137,7 +137,7 @@ pub fn transfer_to(address: u8, i: Instruction, s: Session) -> Transfer
         Instruction::WriteRate => write_word(
             address,
             0x44,
-            rate_in(rate::signal_rate_limit_word(s.a)),
+            rate::signal_rate_limit_word(s.a).unwrap_or(0),
         ),
         Instruction::WriteStop => write(address, 0x91, held(s.code, s.driver).stop),
         Instruction::Prepared => write(address, 0x80, 0x00),
@@ -157,7 +157,11 @@ pub fn transfer_to(address: u8, i: Instruction, s: Session) -> Transfer
         Instruction::ReadTiming(n, _) => read_timing(address, n),
         Instruction::ReadLast(_) => read(address, 0x70, 1),
         Instruction::WriteSteps => write(address, 0x01, 0xE8),
-        Instruction::WriteWord(slot) => write_word(address, 0x71, word_in(word_to_set(slot, s))),
+        Instruction::WriteWord(slot) => write_word(
+            address,
+            0x71,
+            word_to_set(slot, s).unwrap_or(0),
+        ),
         Instruction::AwaitDetector => read(address, 0x83, 1),
         Instruction::AwaitStatus => read(address, 0x13, 1),
         Instruction::AwaitStart => read(address, 0x00, 1),

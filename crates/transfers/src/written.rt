@@ -1,31 +1,10 @@
 // Values that are written.
 ghost use Rattle.std.specs.Prelude.{◌≡◌};
 ghost use Rattle.spad.specs.Masks.{or_byte, and_byte};
-ghost use Rattle.session.specs.Steps.{rate_in, word_in, new_map};
+ghost use Rattle.session.specs.Steps.{new_map};
 ghost use Rattle.session.specs.Machine.{context_of};
 
-use budget::WordOr;
-use rate::RateWord;
 use session::Session;
-
-pub(crate) fn word_in(word: WordOr) -> u16
-    ensures { result ≡ word_in word }
-{
-    match word {
-        WordOr::Word(w) => w,
-        WordOr::NoTime => 0,
-        WordOr::Place(_p) => 0,
-    }
-}
-
-pub(crate) fn rate_in(rate: RateWord) -> u16
-    ensures { result ≡ rate_in rate }
-{
-    match rate {
-        RateWord::Word(w) => w,
-        RateWord::Refused => 0,
-    }
-}
 
 #[tactic(auto, using(crate::proofs::Laws::or_mask))]
 pub(crate) fn or_byte(x: u8, mask: u8) -> u8

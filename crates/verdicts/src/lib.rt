@@ -7,10 +7,10 @@ ghost use Rattle.session.specs.Steps.{op_of, by_place, by_word, no_time};
 ghost use Rattle.steps.specs.Steps.{verdict_of, settled};
 ghost use Rattle.verdicts.specs.Verdicts.{identified, prepared, ready, steps_written, timed_next};
 
-use budget::WordOr;
+use budget::NoWord;
+use clock::Place;
 use session::{Answer, Instruction, Session};
 use steps::{Next, oscillator_word, timed_period, timing_in, word_to_set};
-use timing::PlaceOr;
 
 // The identity has to be 0xEE.
 fn identified(identity: u8) -> Next
@@ -40,7 +40,7 @@ fn timed(period: u64) -> Next
     ensures { result ≡ timed_next period }
 {
     if period > u32::MAX as u64 {
-        Next::Stop(Answer::Panic(1))
+        Next::Stop(Answer::Panic(u8::from(Place::TimedPeriod)))
     } else {
         Next::Onward
     }
@@ -62,12 +62,12 @@ fn ready(status: u8) -> Next
     }
 }
 
-fn by_place(place: PlaceOr) -> Next
+fn by_place(place: Option<Place>) -> Next
     ensures { result ≡ settled (by_place place) }
 {
     match place {
-        PlaceOr::Clear => Next::Onward,
-        PlaceOr::Place(p) => Next::Stop(Answer::Panic(p)),
+        None => Next::Onward,
+        Some(p) => Next::Stop(Answer::Panic(u8::from(p))),
     }
 }
 
@@ -89,13 +89,13 @@ fn no_time(slot: u8) -> Next
     }
 }
 
-fn by_word(slot: u8, word: WordOr) -> Next
+fn by_word(slot: u8, word: Result<u16, NoWord>) -> Next
     ensures { result ≡ settled (by_word (no_time slot) word) }
 {
     match word {
-        WordOr::Word(_w) => Next::Onward,
-        WordOr::NoTime => no_time(slot),
-        WordOr::Place(p) => Next::Stop(Answer::Panic(p)),
+        Ok(_) => Next::Onward,
+        Err(NoWord::NoTime) => no_time(slot),
+        Err(NoWord::Panic(p)) => Next::Stop(Answer::Panic(u8::from(p))),
     }
 }
 
