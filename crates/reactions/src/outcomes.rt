@@ -3,12 +3,11 @@ ghost use Rattle.std.specs.Prelude.{◌≡◌, ◌≤◌};
 ghost use Rattle.session.specs.Instructions.{send_of};
 ghost use Rattle.session.specs.Machine.{sent, refused, broken, context_of, address_of, sending, resting, answering, giving};
 ghost use Rattle.session.specs.Steps.{op_of};
-ghost use Rattle.steps.specs.Steps.{most_at};
-ghost use Rattle.checks.specs.Sound.{Sound};
-ghost use Rattle.reactions.specs.Outcome.{outcome_of, no_transfer};
-ghost use Rattle.reactions.specs.Reactions.{moves, SoundIf, most_in, ending, concluding, acting};
+ghost use Rattle.reactions.specs.Outcome.{outcome_of};
+ghost use Rattle.reactions.specs.Standing.{SoundIf};
+ghost use Rattle.reactions.specs.Reactions.{moves, most_in, ending, concluding, acting};
 
-use crate::{Given, Outcome, Plan};
+use crate::{Given, Outcome, Plan, Standing};
 use ends::{Finished, RangeFailure};
 use session::{Answer, Driver, Instruction, Session, Transfer};
 
@@ -30,79 +29,54 @@ pub fn resting(driver: Driver) -> Session
     }
 }
 
-pub fn no_transfer() -> Transfer
-    ensures { result ≡ no_transfer }
-{
-    Transfer {
-        address: 0,
-        count: 0,
-        written: [0; 7],
-        reads: 0,
-    }
-}
-
-fn sent(transfer: Transfer, session: Session) -> Outcome
-    ensures { result ≡ outcome_of (sent transfer session) }
-{
-    Outcome {
-        given: Given::Sent,
-        transfer,
-        transfers: 0,
-        session,
-    }
-}
-
 // One transfer more, at a step, after so many idle reads there.
 fn sending(step: u8, idle: u32, s: Session) -> Session
     requires { s.transfers ≤ 4294967294 }
     ensures { result ≡ sending step idle s }
 {
-    let mut t = s;
-    t.step = step;
-    t.idle = idle;
-    t.transfers = s.transfers + 1;
-    t
-}
-
-// A bring-up's transfers go to its own address.
-fn address_of(s: Session) -> u8
-    requires { Sound s }
-    ensures { result ≡ address_of s.code s.a s.driver }
-{
-    if s.code == 1 {
-        (s.a % 256) as u8
-    } else {
-        let driver = s.driver;
-        driver.address
+    Session {
+        step,
+        idle,
+        transfers: s.transfers + 1,
+        ..s
     }
 }
 
-pub fn transfer_of(i: Instruction, s: Session) -> Transfer
-    requires sound { Sound s }
-    requires a_bound { s.a ≤ most_at i }
-    ensures { result ≡ send_of (op_of i) (context_of s) }
+// A bring-up's transfers go to its own address.
+fn address_of(s: Standing) -> u8
+    ensures { result ≡ address_of s.session.code s.session.a s.session.driver }
 {
-    transfers::transfer_to(address_of(s), i, s)
+    if s.session.code == 1 {
+        (s.session.a % 256) as u8
+    } else {
+        s.session.driver.address
+    }
 }
 
-fn send(i: Instruction, step: u8, idle: u32, s: Session) -> Outcome
-    requires sound { Sound s }
-    requires a_bound { s.a ≤ most_at i }
-    ensures { result ≡ outcome_of (sent (send_of (op_of i) (context_of s)) (sending step idle s)) }
+pub fn transfer_of(s: Standing) -> Transfer
+    ensures { result ≡ send_of (op_of s.at) (context_of s.session) }
 {
-    sent(transfer_of(i, s), sending(step, idle, s))
+    transfers::transfer_to(address_of(s), s.at, s.session)
 }
 
+#[tactic(auto, unfolding(crate::specs::Outcome::outcome_of))]
+fn send(s: Standing, step: u8, idle: u32) -> Outcome
+    ensures { result ≡ outcome_of (sent (send_of (op_of s.at) (context_of s.session)) (sending step idle s.session)) }
+{
+    Outcome {
+        given: Given::Sent(transfer_of(s)),
+        session: sending(step, idle, s.session),
+    }
+}
+
+#[tactic(auto, unfolding(crate::specs::Outcome::outcome_of))]
 fn answer(x: Answer, driver: Driver, s: Session) -> Outcome
     ensures { result ≡ outcome_of (answering x driver s) }
 {
-    let t = no_transfer();
-    let n = resting(driver);
+    let session = resting(driver);
     Outcome {
-        given: Given::Answered(x),
-        transfer: t,
-        transfers: s.transfers,
-        session: n,
+        given: Given::Answered(x, s.transfers),
+        session,
     }
 }
 
@@ -114,6 +88,7 @@ fn give(x: Answer, s: Session) -> Outcome
     answer(x, steps::held(s.code, driver), s)
 }
 
+#[tactic(auto, unfolding(crate::specs::Reactions::ending))]
 fn end(how: Result<Finished, RangeFailure>, s: Session) -> Outcome
     ensures { result ≡ outcome_of (ending how s) }
 {
@@ -124,48 +99,36 @@ fn end(how: Result<Finished, RangeFailure>, s: Session) -> Outcome
 }
 
 // With no instruction left the call ends.
-fn conclude(s: Session) -> Outcome
-    requires { Sound s }
-    ensures { result ≡ outcome_of (concluding s) }
+fn conclude(s: Standing) -> Outcome
+    ensures { result ≡ outcome_of (concluding s.session) }
 {
-    end(ends::final_of(calls::call_of(s.code), s), s)
+    end(
+        ends::final_of(calls::call_of(s.session.code), s.session),
+        s.session,
+    )
 }
 
-// A refusal keeps the session.
-fn refuse(x: Answer, s: Session) -> Outcome
-    ensures { result ≡ outcome_of (refused x s) }
-{
-    let t = no_transfer();
-    Outcome {
-        given: Given::Refused(x),
-        transfer: t,
-        transfers: 0,
-        session: s,
-    }
-}
-
-fn broken(s: Session) -> Outcome
-    ensures { result ≡ outcome_of (broken s) }
-{
-    let t = no_transfer();
-    Outcome {
-        given: Given::IllFormed,
-        transfer: t,
-        transfers: 0,
-        session: s,
-    }
-}
-
+#[tactic(auto, unfolding(crate::specs::Outcome::outcome_of, crate::specs::Reactions::acting))]
 pub(crate) fn act(plan: Plan, s: Session) -> Outcome
     requires sound_if { SoundIf (moves plan) s }
     requires a_bound { s.a ≤ most_in plan }
     ensures { result ≡ outcome_of (acting plan s) }
 {
     match plan {
-        Plan::Send(i, step, idle) => send(i, step, idle, s),
-        Plan::End => conclude(s),
+        Plan::Send(at, step, idle) => send(Standing { at, session: s }, step, idle),
+        Plan::End => conclude(Standing {
+            at: Instruction::Nowhere,
+            session: s,
+        }),
         Plan::Answer(x) => give(x, s),
-        Plan::Refused(x) => refuse(x, s),
-        Plan::IllFormed => broken(s),
+        // A refusal keeps the session.
+        Plan::Refused(x) => Outcome {
+            given: Given::Refused(x),
+            session: s,
+        },
+        Plan::IllFormed => Outcome {
+            given: Given::IllFormed,
+            session: s,
+        },
     }
 }
