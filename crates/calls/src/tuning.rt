@@ -6,7 +6,7 @@ ghost use Rattle.calls.specs.Parts.{row_write};
 
 use session::Instruction;
 
-// Register and byte.
+// Register and byte, as an array of arrays walked by index: the form that the project sets for this list.
 const TUNING: [[u8; 2]; 80] = [
     [0xFF, 0x01],
     [0x00, 0x00],

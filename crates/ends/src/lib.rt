@@ -142,6 +142,7 @@ fn budget_set(s: Session) -> Finished
 }
 
 // The range, or the failure of its read.
+#[tactic(auto, using(crate::proofs::Laws::read_failure))]
 fn range_result(s: Session) -> Result<Finished, RangeFailure>
     ensures { result ≡ end_of (range_result (context_of s)) }
 {

@@ -46,6 +46,7 @@ fn timed(period: u64) -> Next
     }
 }
 
+#[tactic(auto, using(crate::proofs::Laws::timed_is))]
 fn oscillated(s: Session) -> Next
     ensures { result ≡ settled (verdict_of (op_of Instruction.ReadOscillator) (context_of s)) }
 {
