@@ -1,83 +1,42 @@
 // What the crates timing and budget answer.
-use crate::{clocks, print, record};
+use crate::clocks;
 use budget::{DssTerm, WordOr};
 use clock::Microseconds;
 use std::io;
 use std::io::Write;
 use timing::{PlaceOr, TimingRegisters};
 
-fn replies(out: &mut impl Write, b: [u8; 8]) -> io::Result<()> {
-    print::hex(out, b[0])?;
-    print::space(out)?;
-    print::hex_word(out, b[1], b[2])?;
-    print::space(out)?;
-    print::hex_word(out, b[3], b[4])?;
-    print::space(out)?;
-    print::hex(out, b[5])?;
-    print::space(out)?;
-    print::hex(out, b[6])?;
-    print::space(out)?;
-    print::hex(out, b[7])?;
-    print::space(out)
-}
-
 fn word_or(out: &mut impl Write, answer: WordOr) -> io::Result<()> {
     match answer {
-        WordOr::Word(w) => print::word(out, w),
-        WordOr::NoTime => print::text(out, b"N"),
-        WordOr::Place(p) => print::place(out, p),
+        WordOr::Word(w) => write!(out, "{w}"),
+        WordOr::NoTime => write!(out, "N"),
+        WordOr::Place(p) => write!(out, "P{p}"),
     }
 }
 
-fn reply_and_place(out: &mut impl Write, known: u8, place: u8) -> io::Result<bool> {
-    print::byte(out, known)?;
-    print::text(out, b":")?;
-    print::place(out, place)?;
-    Ok(true)
-}
-
-// Whether the first `known` replies have a place; if so, it is written.
-fn has_place(out: &mut impl Write, r: TimingRegisters, known: u8) -> io::Result<bool> {
-    match timing::first_place(r, known) {
-        PlaceOr::Place(p) => reply_and_place(out, known, p),
-        PlaceOr::Clear => Ok(false),
-    }
-}
-
-// The reply that brought the first place.
+// The reply that brought the first place: how many replies have one.
 fn first_place(out: &mut impl Write, r: TimingRegisters) -> io::Result<()> {
-    if has_place(out, r, 1)?
-        || has_place(out, r, 2)?
-        || has_place(out, r, 3)?
-        || has_place(out, r, 4)?
-        || has_place(out, r, 5)?
-        || has_place(out, r, 6)?
-    {
-        return Ok(());
+    for known in 1..=6 {
+        if let PlaceOr::Place(p) = timing::first_place(r, known) {
+            return write!(out, "{known}:P{p}");
+        }
     }
-    print::text(out, b"-")
+    write!(out, "-")
 }
 
-fn answers(out: &mut impl Write, r: TimingRegisters, budget: u32) -> io::Result<()> {
-    print::number(out, budget)?;
-    print::space(out)?;
+pub fn measurement_timing_budget(out: &mut impl Write, b: [u8; 8], budget: u32) -> io::Result<()> {
+    write!(
+        out,
+        "budget {:02X} {:02X}{:02X} {:02X}{:02X} {:02X} {:02X} {:02X} {budget} ",
+        b[0], b[1], b[2], b[3], b[4], b[5], b[6], b[7]
+    )?;
+    let r = timing::timing_registers(b);
     clocks::microseconds(out, budget::measurement_timing_budget(r))?;
-    print::space(out)?;
+    write!(out, " ")?;
     word_or(
         out,
         budget::final_range_word(r, Microseconds(budget), DssTerm::Once),
     )?;
-    print::space(out)?;
+    write!(out, " ")?;
     first_place(out, r)
-}
-
-pub fn measurement_timing_budget(out: &mut impl Write, r: [u8; 13]) -> io::Result<()> {
-    let bytes = [r[1], r[2], r[3], r[4], r[5], r[6], r[7], r[8]];
-    print::text(out, b"budget ")?;
-    replies(out, bytes)?;
-    answers(
-        out,
-        timing::timing_registers(bytes),
-        record::number(r[9], r[10], r[11], r[12]),
-    )
 }
