@@ -73,43 +73,43 @@ fn main(rt: HostRuntime) -> io::Result<()> {
         &mut out,
         "decode_timeout",
         0..=u16::MAX,
-        |out, x| clocks::decode_timeout(out, x),
+        clocks::decode_timeout,
     )?;
     rows(
         &mut out,
         "encode_timeout",
         0..=u16::MAX,
-        |out, x| clocks::encode_timeout(out, x),
+        clocks::encode_timeout,
     )?;
     rows(
         &mut out,
         "decode_vcsel_period",
         0..=u8::MAX,
-        |out, x| clocks::decode_vcsel_period(out, x),
+        clocks::decode_vcsel_period,
     )?;
     rows(
         &mut out,
         "encode_vcsel_period",
         0..=u8::MAX,
-        |out, x| clocks::encode_vcsel_period(out, x),
+        clocks::encode_vcsel_period,
     )?;
     rows(
         &mut out,
         "calc_macro_period",
         0..=u8::MAX,
-        |out, x| clocks::calc_macro_period(out, x),
+        clocks::calc_macro_period,
     )?;
     rows(
         &mut out,
         "set_interrupt_thresholds_mm",
         0..=u16::MAX,
-        |out, x| thresholds::encode_threshold(out, x),
+        thresholds::encode_threshold,
     )?;
     rows(
         &mut out,
         "get_interrupt_thresholds_mm",
         0..=u16::MAX,
-        |out, x| thresholds::decode_threshold(out, x),
+        thresholds::decode_threshold,
     )?;
     replay_records(&mut reader, &mut out)
 }
