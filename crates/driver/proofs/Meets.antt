@@ -13,12 +13,12 @@ use Rattle.session.specs.Instructions.{Context, Op, write, read, wait, range, se
 use Rattle.session.specs.Steps.{op_of}
 use Rattle.session.specs.Calls.{arguments_ok}
 use Rattle.session.proofs.Facts.{both}
+use Rattle.std.specs.Prelude.{None, Some}
 use Rattle.session.specs.Machine.{refused, broken, context_of, stray, waits_now, malformed, ill_formed, begun, not_up, reply_def, begin_def, other_def}
 use Rattle.calls.specs.Calls.{call_of, program_for, instruction_at}
 use Rattle.calls.proofs.Programs.{program_named}
 use Rattle.steps.specs.Steps.{shape_of, settled}
 use Rattle.checks.specs.Sound.{Sound, stray_in}
-use Rattle.reactions.specs.Outcome.{no_transfer}
 use Rattle.reactions.specs.Reactions.{way_of, plan_of, acting}
 use Rattle.reactions.proofs.Meets.{goes_by}
 use Rattle.driver.specs.Replies.{taking, replying, launching, beginning, outstanding_of}
@@ -100,11 +100,11 @@ unfolding other_def
 other_13 s h = sym (rw h refl)
 
 -- the transfer that is out
-pub out_ill : (s : Session) → ill_formed s ≡ true → no_transfer ≡ outstanding_of s
+pub out_ill : (s : Session) → ill_formed s ≡ true → None ≡ outstanding_of s
 unfolding outstanding_of
 out_ill s h = let q = both (waits_now s) (malformed s) h in sym (rw (q.0, q.1) refl)
 
-pub out_sent : (s : Session) → ill_formed s ≡ false → (s.code ≡ 0 → ⊥) → send_of (op_of (instruction_at s.code s.step)) (context_of s) ≡ outstanding_of s
+pub out_sent : (s : Session) → ill_formed s ≡ false → (s.code ≡ 0 → ⊥) → Some (send_of (op_of (instruction_at s.code s.step)) (context_of s)) ≡ outstanding_of s
 unfolding outstanding_of
 out_sent s h n =
     let m = waiting_sound s h n in

@@ -1,8 +1,7 @@
 -- Calls and replies, over the plain data of the session's instruction. That they are the machine's is proved.
-use Rattle.std.specs.Prelude.{Bool, cond, List, ℕ, drop}
+use Rattle.std.specs.Prelude.{Bool, cond, List, ℕ, drop, Option, Some, None}
 use Rattle.session.specs.declared.Transfer.{Transfer}
 use Rattle.session.specs.Claim1.{outstanding as first_sent}
-use Rattle.reactions.specs.Outcome.{no_transfer}
 use Rattle.session.specs.declared.Session.{Session}
 use Rattle.session.specs.declared.Answer.{Answer}
 use Rattle.session.specs.declared.Instruction.{Instruction}
@@ -25,5 +24,5 @@ unfoldable pub beginning : Bool → Session → Session → Result
 beginning absent s started = cond absent (refused Answer.NotUp s) (launching started)
 
 -- the transfer that a waiting session has out; none where no call waits or the session is ill-formed
-unfoldable pub outstanding_of : Session → Transfer
-outstanding_of s = cond (waits_now s) (cond (malformed s) no_transfer (first_sent s)) no_transfer
+unfoldable pub outstanding_of : Session → Option Transfer
+outstanding_of s = cond (waits_now s) (cond (malformed s) None (Some (first_sent s))) None

@@ -10,7 +10,7 @@ ghost use Rattle.reactions.specs.Reactions.{Taken, Reaches};
 ghost use Rattle.driver.specs.Replies.{taking, outstanding_of};
 
 use checks::{ill_formed, ill_formed_at, stray};
-use reactions::{Course, Outcome, Way, go, no_transfer, react, transfer_of};
+use reactions::{Course, Outcome, Way, go, react, transfer_of};
 use session::{Answer, Instruction, Session, Transfer};
 use steps::Shape;
 
@@ -87,22 +87,12 @@ pub fn reply(s: Session, failure: u8, bytes: [u8; 6]) -> Outcome
     go(reply_course(s, failure, bytes))
 }
 
-fn outstanding_if(ill: bool, s: Session) -> Transfer
-    requires { ill ≡ ill_formed s }
-    ensures { result ≡ outstanding_of s }
-{
-    if ill {
-        no_transfer()
-    } else if s.code == 0 {
-        no_transfer()
-    } else {
-        transfer_of(calls::instruction_at(s.code, s.step), s)
-    }
-}
-
 // The transfer that a waiting session has out; none where no call waits or the session is ill-formed.
-pub fn outstanding(s: Session) -> Transfer
+pub fn outstanding(s: Session) -> Option<Transfer>
     ensures { result ≡ outstanding_of s }
 {
-    outstanding_if(ill_formed(s), s)
+    if ill_formed(s) || s.code == 0 {
+        return None;
+    }
+    Some(transfer_of(calls::instruction_at(s.code, s.step), s))
 }

@@ -12,7 +12,7 @@ use Rattle.reactions.specs.declared.Way.{Way}
 use Rattle.reactions.specs.declared.Plan.{Plan}
 use Rattle.reactions.specs.declared.Outcome.{Outcome}
 use Rattle.reactions.specs.Outcome.{outcome_of}
-use Rattle.reactions.specs.Reactions.{with_failure, keeps, decides, way_of, wait_way, failed_way, plan_of, ending, acting}
+use Rattle.reactions.specs.Reactions.{with_failure, keeps, decides, way_of, wait_way, failed_way, plan_of, ending}
 
 pub case_failure : (x k : Kind) (f : ℕ) (s : Session) (r : Session) → x ≡ k → r ≡ with_failure k f s → r ≡ with_failure x f s
 case_failure x k f s r e p = p ∙ sym (ap (λ (y : Kind). with_failure y f s) e)
@@ -38,7 +38,4 @@ case_plan x k i s r e p = p ∙ sym (ap (λ (y : Way). plan_of y i s) e)
 pub case_end : (x k : End) (s : Session) (r : Outcome) → x ≡ k → r ≡ outcome_of (ending k s) → r ≡ outcome_of (ending x s)
 case_end x k s r e p = p ∙ sym (ap (λ (y : End). outcome_of (ending y s)) e)
 
-pub case_act : (x k : Plan) (s : Session) (r : Outcome) → x ≡ k → r ≡ outcome_of (acting k s) → r ≡ outcome_of (acting x s)
-case_act x k s r e p = p ∙ sym (ap (λ (y : Plan). outcome_of (acting y s)) e)
-
-pub ruleset cases = (case_failure, case_keeps, case_decides, case_way, case_wait, case_failed, case_plan, case_end, case_act)
+pub ruleset cases = (case_failure, case_keeps, case_decides, case_way, case_wait, case_failed, case_plan, case_end)

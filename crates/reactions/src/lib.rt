@@ -17,26 +17,24 @@ use crate::kept::kept_by;
 use crate::outcomes::act;
 use crate::plans::plan_of;
 use crate::ways::way_after;
-pub use outcomes::{no_transfer, resting, transfer_of};
+pub use outcomes::{resting, transfer_of};
 use session::{Answer, Instruction, Session, Transfer};
 use steps::Shape;
 pub use ways::way_of;
 
-// One of four: a transfer, the answer of a call, a refusal, or the session itself is ill-formed (answer 15).
+// One of four: a transfer, the answer of a call with the transfers that it made, a refusal, or the session itself is ill-formed (answer 15).
 #[derive(Clone, Copy)]
 pub enum Given {
-    Sent,
-    Answered(Answer),
+    Sent(Transfer),
+    Answered(Answer, u32),
     Refused(Answer),
     IllFormed,
 }
 
-// The transfer where one was sent, the transfers of the call where it was answered, and the new session.
+// What a call, a reply or a record gives, and the new session.
 #[derive(Clone, Copy)]
 pub struct Outcome {
     pub given: Given,
-    pub transfer: Transfer,
-    pub transfers: u32,
     pub session: Session,
 }
 

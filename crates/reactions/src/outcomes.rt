@@ -5,7 +5,7 @@ ghost use Rattle.session.specs.Machine.{sent, refused, broken, context_of, addre
 ghost use Rattle.session.specs.Steps.{op_of};
 ghost use Rattle.steps.specs.Steps.{most_at};
 ghost use Rattle.checks.specs.Sound.{Sound};
-ghost use Rattle.reactions.specs.Outcome.{outcome_of, no_transfer};
+ghost use Rattle.reactions.specs.Outcome.{outcome_of};
 ghost use Rattle.reactions.specs.Reactions.{moves, SoundIf, most_in, ending, concluding, acting};
 
 use crate::{Given, Outcome, Plan};
@@ -27,28 +27,6 @@ pub fn resting(driver: Driver) -> Session
         failed: 0,
         own: 0,
         carried: [0; 24],
-    }
-}
-
-pub fn no_transfer() -> Transfer
-    ensures { result ≡ no_transfer }
-{
-    Transfer {
-        address: 0,
-        count: 0,
-        written: [0; 7],
-        reads: 0,
-    }
-}
-
-fn sent(transfer: Transfer, session: Session) -> Outcome
-    ensures { result ≡ outcome_of (sent transfer session) }
-{
-    Outcome {
-        given: Given::Sent,
-        transfer,
-        transfers: 0,
-        session,
     }
 }
 
@@ -85,24 +63,28 @@ pub fn transfer_of(i: Instruction, s: Session) -> Transfer
     transfers::transfer_to(address_of(s), i, s)
 }
 
+#[tactic(auto, unfolding(crate::specs::Outcome::outcome_of))]
 fn send(i: Instruction, step: u8, idle: u32, s: Session) -> Outcome
     requires sound { Sound s }
     requires a_bound { s.a ≤ most_at i }
     ensures { result ≡ outcome_of (sent (send_of (op_of i) (context_of s)) (sending step idle s)) }
 {
-    sent(transfer_of(i, s), sending(step, idle, s))
+    let transfer = transfer_of(i, s);
+    let session = sending(step, idle, s);
+    Outcome {
+        given: Given::Sent(transfer),
+        session,
+    }
 }
 
+#[tactic(auto, unfolding(crate::specs::Outcome::outcome_of))]
 fn answer(x: Answer, driver: Driver, s: Session) -> Outcome
     ensures { result ≡ outcome_of (answering x driver s) }
 {
-    let t = no_transfer();
-    let n = resting(driver);
+    let session = resting(driver);
     Outcome {
-        given: Given::Answered(x),
-        transfer: t,
-        transfers: s.transfers,
-        session: n,
+        given: Given::Answered(x, s.transfers),
+        session,
     }
 }
 
@@ -131,31 +113,7 @@ fn conclude(s: Session) -> Outcome
     end(ends::final_of(calls::call_of(s.code), s), s)
 }
 
-// A refusal keeps the session.
-fn refuse(x: Answer, s: Session) -> Outcome
-    ensures { result ≡ outcome_of (refused x s) }
-{
-    let t = no_transfer();
-    Outcome {
-        given: Given::Refused(x),
-        transfer: t,
-        transfers: 0,
-        session: s,
-    }
-}
-
-fn broken(s: Session) -> Outcome
-    ensures { result ≡ outcome_of (broken s) }
-{
-    let t = no_transfer();
-    Outcome {
-        given: Given::IllFormed,
-        transfer: t,
-        transfers: 0,
-        session: s,
-    }
-}
-
+#[tactic(auto, unfolding(crate::specs::Outcome::outcome_of, crate::specs::Reactions::acting))]
 pub(crate) fn act(plan: Plan, s: Session) -> Outcome
     requires sound_if { SoundIf (moves plan) s }
     requires a_bound { s.a ≤ most_in plan }
@@ -165,7 +123,13 @@ pub(crate) fn act(plan: Plan, s: Session) -> Outcome
         Plan::Send(i, step, idle) => send(i, step, idle, s),
         Plan::End => conclude(s),
         Plan::Answer(x) => give(x, s),
-        Plan::Refused(x) => refuse(x, s),
-        Plan::IllFormed => broken(s),
+        Plan::Refused(x) => Outcome {
+            given: Given::Refused(x),
+            session: s,
+        },
+        Plan::IllFormed => Outcome {
+            given: Given::IllFormed,
+            session: s,
+        },
     }
 }

@@ -14,8 +14,8 @@ use Rattle.records.specs.Runs.{counts_of, one_if, added_to}
 
 -- what the code shows of what a record got
 abbrev pub given_of : Got → Given
-given_of (transfer t) = Given.Sent
-given_of (answer x n) = Given.Answered x
+given_of (transfer t) = Given.Sent t
+given_of (answer x n) = Given.Answered x n
 given_of (refusal x) = Given.Refused x
 
 -- the counts of a history, as the code keeps them

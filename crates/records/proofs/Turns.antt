@@ -78,7 +78,7 @@ room_up c m n e h =
 
 room_added : (c : Counts) (kind : ℕ) (g : Given) (n : ℕ) → Room c n → Room (added_to c kind g) (n + 8)
 unfolding added_to
-room_added c kind Given.Sent n h =
+room_added c kind (Given.Sent t) n h =
     record {
       calls = omega (arith, h.calls, at_most_one kind 1);
       answers = omega (arith, h.answers);
@@ -86,7 +86,7 @@ room_added c kind Given.Sent n h =
       transfers = omega (arith, h.transfers);
       refused = omega (arith, h.refused);
     }
-room_added c kind (Given.Answered x) n h =
+room_added c kind (Given.Answered x k) n h =
     record {
       calls = omega (arith, h.calls, at_most_one kind 1);
       answers = omega (arith, h.answers);

@@ -43,7 +43,7 @@ one_if kind wanted = cond (eqb kind wanted) 1 0
 
 -- the counts after a record of a kind
 unfoldable pub added_to : Counts → ℕ → Given → Counts
-added_to c kind Given.Sent =
+added_to c kind (Given.Sent t) =
     record {
       calls = c.calls + one_if kind 1;
       answers = c.answers;
@@ -51,7 +51,7 @@ added_to c kind Given.Sent =
       transfers = c.transfers + 1;
       refused = c.refused;
     }
-added_to c kind (Given.Answered x) =
+added_to c kind (Given.Answered x n) =
     record {
       calls = c.calls + one_if kind 1;
       answers = c.answers + 1;
@@ -64,8 +64,8 @@ added_to c kind (Given.Refused x) =
 added_to c kind Given.IllFormed = c
 
 unfoldable pub is_ill_formed : Given → Bool
-is_ill_formed Given.Sent = false
-is_ill_formed (Given.Answered x) = false
+is_ill_formed (Given.Sent t) = false
+is_ill_formed (Given.Answered x n) = false
 is_ill_formed (Given.Refused x) = false
 is_ill_formed Given.IllFormed = true
 

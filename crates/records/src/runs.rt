@@ -24,6 +24,7 @@ fn one_if(kind: u8, wanted: u8) -> u64
 }
 
 // The counts after a record of a kind.
+#[tactic(auto, unfolding(crate::specs::Runs::added_to))]
 fn added_to(counts: Counts, kind: u8, given: Given) -> Counts
     requires { Room counts (2 ^ 63) }
     ensures { result ≡ added_to counts kind given }
@@ -31,14 +32,14 @@ fn added_to(counts: Counts, kind: u8, given: Given) -> Counts
     let call = one_if(kind, 1);
     let reply = one_if(kind, 2);
     match given {
-        Given::Sent => Counts {
+        Given::Sent(_) => Counts {
             calls: counts.calls + call,
             answers: counts.answers,
             replies: counts.replies + reply,
             transfers: counts.transfers + 1,
             refused: counts.refused,
         },
-        Given::Answered(_) => Counts {
+        Given::Answered(_, _) => Counts {
             calls: counts.calls + call,
             answers: counts.answers + 1,
             replies: counts.replies + reply,
@@ -56,12 +57,13 @@ fn added_to(counts: Counts, kind: u8, given: Given) -> Counts
     }
 }
 
+#[tactic(auto, unfolding(crate::specs::Runs::is_ill_formed))]
 fn is_ill_formed(given: Given) -> bool
     ensures { result ≡ is_ill_formed given }
 {
     match given {
-        Given::Sent => false,
-        Given::Answered(_) => false,
+        Given::Sent(_) => false,
+        Given::Answered(_, _) => false,
         Given::Refused(_) => false,
         Given::IllFormed => true,
     }

@@ -1,8 +1,0 @@
--- `reactions::outcomes::broken` meets its contract.
-use mathlib.Core.Path.{refl}
-use Rattle.reactions.specs.Outcome.{outcome_of}
-use Rattle.reactions.proofs.outcomes.broken.Goals as goal
-
-pub returns : goal.returns
-unfolding outcome_of
-returns c = rw c.no_transfer-t.ensures refl
