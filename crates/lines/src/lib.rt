@@ -6,7 +6,7 @@ mod cursor;
 
 ghost use Rattle.std.specs.Prelude.{◌≡◌, ◌+◌, ◌≤◌, length};
 ghost use Rattle.session.specs.Bus.{number_of};
-ghost use Rattle.lines.specs.Lines.{transfer_line, answer_line, fields_line, outcome_line, flag, value_of};
+ghost use Rattle.lines.specs.Lines.{transfer_line, answer_line, given_line, fields_line, outcome_line, flag, value_of};
 ghost use Rattle.lines.specs.Put.{Put, PutLine};
 
 use crate::cursor::Cursor;
@@ -86,15 +86,15 @@ impl<'a> Cursor<'a> {
     }
 
     #[tactic(auto, unfolding(crate::specs::Lines::given_line))]
-    fn outcome(&mut self, o: Outcome)
+    fn given(&mut self, given: Given)
         requires { self.old.at + 32 ≤ length self.old.text.now }
         ensures same_text { self.new.text.ghost_name ≡ self.old.text.ghost_name }
-        ensures put { Put self.old.text.now self.old.at (outcome_line o) self.new.text.now self.new.at }
+        ensures put { Put self.old.text.now self.old.at (given_line given) self.new.text.now self.new.at }
         ensures upper_bound { self.new.at ≤ self.old.at + 32 }
     {
-        match o.given {
-            Given::Sent => self.transfer(o.transfer),
-            Given::Answered(x) => self.answer(number_of(x), value_of(x), o.transfers),
+        match given {
+            Given::Sent(t) => self.transfer(t),
+            Given::Answered(x, transfers) => self.answer(number_of(x), value_of(x), transfers),
             Given::Refused(x) => self.answer(number_of(x), 0, 0),
             Given::IllFormed => self.answer(number_of(Answer::IllFormedSession), 0, 0),
         }
@@ -123,7 +123,7 @@ pub fn outcome_line(text: &mut [u8], at: usize, o: Outcome) -> usize
         return at;
     }
     let mut line = Cursor { text, at };
-    line.outcome(o);
+    line.given(o.given);
     line.at
 }
 
