@@ -8,6 +8,8 @@ ghost use Rattle.clock.specs.Clock.{shifted, decoded_timeout, halved, encoded_ti
 ghost use Rattle.clock.specs.Clock.{decoded_vcsel_period, encoded_vcsel_period, macro_period};
 ghost use Rattle.clock.specs.Clock.{mclks_to_microseconds, microseconds_to_mclks, cut_mclks};
 
+use std::fmt;
+
 // Macro clocks.
 #[derive(Clone, Copy)]
 pub struct Mclks(pub u16);
@@ -52,6 +54,12 @@ impl From<Place> for u8 {
 
     fn from(place: Place) -> u8 {
         place as u8
+    }
+}
+
+impl fmt::Display for Place {
+    fn fmt<W: fmt::Write>(&self, f: &mut fmt::Formatter<W>) -> fmt::Result {
+        write!(f, "{}", u8::from(*self))
     }
 }
 

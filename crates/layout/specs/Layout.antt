@@ -82,14 +82,14 @@ answer_bytes number value transfers = (number ∷ long_bytes value) ++ long_byte
 abbrev pub refusal_bytes : Answer → List ℕ
 refusal_bytes x = answer_bytes (number_of x) 0 0
 
-unfoldable pub given_bytes : Given → Transfer → ℕ → List ℕ
-given_bytes Given.Sent t n = transfer_bytes t
-given_bytes (Given.Answered x) t n = answer_bytes (number_of x) (value_of x) n
-given_bytes (Given.Refused x) t n = refusal_bytes x
-given_bytes Given.IllFormed t n = refusal_bytes Answer.IllFormedSession
+unfoldable pub given_bytes : Given → List ℕ
+given_bytes (Given.Sent t) = transfer_bytes t
+given_bytes (Given.Answered x n) = answer_bytes (number_of x) (value_of x) n
+given_bytes (Given.Refused x) = refusal_bytes x
+given_bytes Given.IllFormed = refusal_bytes Answer.IllFormedSession
 
 abbrev pub outcome_bytes : Outcome → List ℕ
-outcome_bytes o = given_bytes o.given o.transfer o.transfers
+outcome_bytes o = given_bytes o.given
 
 -- what stands in lent bytes after it was put there: they stay as they were where they are not as many
 abbrev pub placed : ℕ → List ℕ → List ℕ → List ℕ

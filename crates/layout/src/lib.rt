@@ -2,8 +2,7 @@
 #![tactic(auto)]
 
 mod outcomes;
-mod parts;
 mod sessions;
 
-pub use outcomes::{put_outcome, put_refusal, put_transfer};
-pub use sessions::{is_session, put_session, session_in};
+pub use outcomes::put_given;
+pub use sessions::{is_session, put_session, session_in, session_of};

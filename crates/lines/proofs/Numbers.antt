@@ -3,11 +3,11 @@ use mathlib.Core.Path.{◌≡◌, refl, sym, ap, ◌∙◌}
 use mathlib.Core.Bool.{cond}
 use mathlib.Core.Logic.{⊎_elim}
 use mathlib.Core.List.{List, [], ◌∷◌, ◌++◌}
-use Prim.Native.Nat.{ℕ, zero, suc, ◌+◌, ◌*◌, ◌/◌, ◌%◌, ◌≤◌, ◌<◌, min}
+use Prim.Native.Nat.{ℕ, zero, suc, ◌+◌, ◌*◌, ◌/◌, ◌%◌, ◌≤◌, ◌<◌}
 use native.Mathlib.Omega.{arith}
 use lib.Dec.{ltb}
 use lib.ListN.{length, take, get_or, length-append}
-use lib.Seq.{take-suc, take_all}
+use lib.Seq.{take-suc}
 use borrow.Author.Tests.{lt-ltb, le-ltb}
 use Rattle.spad.proofs.Laws.{lt_or_ge}
 use Rattle.lines.specs.Lines.{hex_pair, hex_pairs, digits, decimal}
@@ -60,15 +60,3 @@ byte_digits n h = short 9 2 n (omega arith)
 
 pub word_digits : (n : ℕ) → n < 4294967296 → length (decimal n) ≤ 10
 word_digits n h = short 9 9 n (omega arith)
-
--- more bytes are not taken than there are
-pub take_least : (l : List ℕ) (n k : ℕ) → length l ≡ k → take (min n k) l ≡ take n l
-take_least l n k e = ⊎_elim under over (lt_or_ge n k)
-  where
-    under : n < k → take (min n k) l ≡ take n l
-    under h = let m : min n k ≡ n = omega arith in rw m refl
-
-    over : k ≤ n → take (min n k) l ≡ take n l
-    over h =
-        let m : min n k ≡ k = omega arith in
-        rw (m, take_all k l (omega arith), take_all n l (omega arith)) refl

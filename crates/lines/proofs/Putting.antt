@@ -1,15 +1,12 @@
 -- What is put after what was put before it, and a line where there is room for it.
-use mathlib.Core.Path.{◌≡◌, refl, sym, ap, ◌∙◌}
-use mathlib.Core.Bool.{true, false}
+use mathlib.Core.Path.{◌≡◌, refl, ap, ◌∙◌}
 use mathlib.Core.List.{List, [], ◌∷◌, ◌++◌}
-use Prim.Native.Nat.{ℕ, suc, ◌+◌, ◌≤◌}
+use Prim.Native.Nat.{ℕ, suc, ◌+◌}
 use native.Mathlib.Nat.{add-zero}
 use native.Mathlib.Omega.{arith}
-use lib.Dec.{leb}
 use lib.ListN.{length, length-append}
-use lib.Seq.{sets}
-use borrow.Author.Tests.{leb-true, leb-false}
-use Rattle.lines.specs.Put.{Put, PutLine}
+use lib.Seq.{sets, length-sets}
+use Rattle.lines.specs.Put.{Put}
 
 sets_append : (l : List ℕ) (i : ℕ) (u v : List ℕ) → sets (sets l i u) (i + length u) v ≡ sets l i (u ++ v)
 sets_append l i [] v = rw add-zero refl
@@ -25,14 +22,5 @@ then {was} {bytes} {after} {s} {t} {at} {next} {end} p q =
       ends = rw length-append (omega arith);
     }
 
--- a line, by the test for its room
-pub roomy : {was text line : List ℕ} {at next : ℕ} → leb (at + 32) (length was) ≡ true → Put was at line text next × (next ≤ at + 32)
-    → PutLine was at line text next
-roomy {was} {text} {line} {at} e p = record { with_room = λ h. p; without = λ h. absurd (omega (arith, leb-true (at + 32) (length was) e, h)) }
-
-pub full : {was line : List ℕ} {at : ℕ} → leb (at + 32) (length was) ≡ false → PutLine was at line was at
-full {was} {line} {at} e =
-    record {
-      with_room = λ h. absurd (omega (arith, leb-false (at + 32) (length was) e, h));
-      without = λ h. record { puts = refl; ends = sym (add-zero at) };
-    }
+pub keeps : {was part text : List ℕ} {at next : ℕ} → Put was at part text next → length text ≡ length was
+keeps {was} {part} {text} {at} p = ap length p.puts ∙ length-sets was at part

@@ -74,11 +74,11 @@ abbrev pub value_of : Answer → ℕ
 value_of x = get_or (values_of x) 0 0
 
 -- 01: "call's transfers (0 if refused)"; the value of a refusal is 0
-unfoldable pub given_line : Given → Transfer → ℕ → List ℕ
-given_line Given.Sent t n = transfer_line t
-given_line (Given.Answered x) t n = answer_line (number_of x) (value_of x) n
-given_line (Given.Refused x) t n = answer_line (number_of x) 0 0
-given_line Given.IllFormed t n = answer_line (number_of Answer.IllFormedSession) 0 0
+unfoldable pub given_line : Given → List ℕ
+given_line (Given.Sent t) = transfer_line t
+given_line (Given.Answered x n) = answer_line (number_of x) (value_of x) n
+given_line (Given.Refused x) = answer_line (number_of x) 0 0
+given_line Given.IllFormed = answer_line (number_of Answer.IllFormedSession) 0 0
 
 abbrev pub outcome_line : Outcome → List ℕ
-outcome_line o = given_line o.given o.transfer o.transfers
+outcome_line o = given_line o.given

@@ -2,14 +2,14 @@
 // returned. Where the text has less than 32 bytes from that place on, nothing is put: no line has more.
 #![tactic(auto)]
 
-mod digits;
+mod cursor;
 
 ghost use Rattle.std.specs.Prelude.{◌≡◌, ◌+◌, ◌≤◌, length};
 ghost use Rattle.session.specs.Bus.{number_of};
-ghost use Rattle.lines.specs.Lines.{transfer_line, answer_line, fields_line, outcome_line, flag, value_of};
+ghost use Rattle.lines.specs.Lines.{transfer_line, answer_line, given_line, fields_line, outcome_line, flag, value_of};
 ghost use Rattle.lines.specs.Put.{Put, PutLine};
 
-use crate::digits::{put_byte, put_number, put_pair, put_pairs, put_small};
+use crate::cursor::Cursor;
 use checks::has_room;
 use reactions::{Given, Outcome};
 use session::{Answer, Driver, Transfer};
@@ -42,99 +42,99 @@ pub fn value_of(x: Answer) -> u32
 {
     match x {
         Answer::Done(value) => value,
-        Answer::False => 0,
-        Answer::InvalidDevice(byte) => byte as u32,
-        Answer::BusError(code) => code as u32,
-        Answer::Timeout => 0,
-        Answer::InvalidAddress(address) => address as u32,
-        Answer::InvalidArgument => 0,
-        Answer::WouldBlock => 0,
-        Answer::Panic(place) => place as u32,
-        Answer::NotUp => 0,
-        Answer::CallWaits => 0,
-        Answer::NoCallWaits => 0,
-        Answer::StrayByte => 0,
-        Answer::IllFormedRecord => 0,
-        Answer::SpareBytes => 0,
-        Answer::IllFormedSession => 0,
-    }
-}
-
-fn put_transfer(text: &mut [u8], at: usize, t: Transfer) -> usize
-    requires { at + 32 ≤ length text.old }
-    ensures { Put text.old at (transfer_line t) text.new result × (result ≤ at + 32) }
-{
-    let written = t.written;
-    let mut next = put_byte(text, at, b'T');
-    next = put_byte(text, next, b' ');
-    next = put_pair(text, next, t.address);
-    next = put_byte(text, next, b' ');
-    next = put_pairs(text, next, written, t.count);
-    next = put_small(text, next, t.reads);
-    put_byte(text, next, b'\n')
-}
-
-fn put_answer(text: &mut [u8], at: usize, number: u8, value: u32, transfers: u32) -> usize
-    requires { at + 32 ≤ length text.old }
-    ensures { Put text.old at (answer_line number value transfers) text.new result × (result ≤ at + 32) }
-{
-    let mut next = put_byte(text, at, b'A');
-    next = put_small(text, next, number);
-    next = put_number(text, next, value);
-    next = put_number(text, next, transfers);
-    put_byte(text, next, b'\n')
-}
-
-fn put_outcome(text: &mut [u8], at: usize, o: Outcome) -> usize
-    requires { at + 32 ≤ length text.old }
-    ensures { Put text.old at (outcome_line o) text.new result × (result ≤ at + 32) }
-{
-    let given = o.given;
-    let transfer = o.transfer;
-    match given {
-        Given::Sent => put_transfer(text, at, transfer),
-        Given::Answered(x) => put_answer(text, at, number_of(x), value_of(x), o.transfers),
-        Given::Refused(x) => put_answer(text, at, number_of(x), 0, 0),
-        Given::IllFormed => put_answer(text, at, 15, 0, 0),
+        Answer::InvalidDevice(n)
+        | Answer::BusError(n)
+        | Answer::InvalidAddress(n)
+        | Answer::Panic(n) => n.into(),
+        _ => 0,
     }
 }
 
 fn flag_of(up: bool) -> u8
     ensures { result ≡ flag up }
 {
-    if up { 1 } else { 0 }
+    up as u8
 }
 
-fn put_fields(text: &mut [u8], at: usize, d: Driver) -> usize
-    requires { at + 32 ≤ length text.old }
-    ensures { Put text.old at (fields_line d) text.new result × (result ≤ at + 32) }
-{
-    let mut next = put_byte(text, at, b'F');
-    next = put_small(text, next, flag_of(d.up));
-    next = put_small(text, next, d.address);
-    next = put_small(text, next, d.stop);
-    next = put_number(text, next, d.budget);
-    put_byte(text, next, b'\n')
+impl<'a> Cursor<'a> {
+    fn transfer(&mut self, t: Transfer)
+        requires { self.old.at + 32 ≤ length self.old.text.now }
+        ensures same_text { self.new.text.ghost_name ≡ self.old.text.ghost_name }
+        ensures put { Put self.old.text.now self.old.at (transfer_line t) self.new.text.now self.new.at }
+        ensures upper_bound { self.new.at ≤ self.old.at + 32 }
+    {
+        self.byte(b'T');
+        self.byte(b' ');
+        self.pair(t.address);
+        self.byte(b' ');
+        self.pairs(t.written, t.count);
+        self.number(t.reads as u32);
+        self.byte(b'\n');
+    }
+
+    fn answer(&mut self, number: u8, value: u32, transfers: u32)
+        requires { self.old.at + 32 ≤ length self.old.text.now }
+        ensures same_text { self.new.text.ghost_name ≡ self.old.text.ghost_name }
+        ensures put { Put self.old.text.now self.old.at (answer_line number value transfers) self.new.text.now self.new.at }
+        ensures upper_bound { self.new.at ≤ self.old.at + 32 }
+    {
+        self.byte(b'A');
+        self.number(number as u32);
+        self.number(value);
+        self.number(transfers);
+        self.byte(b'\n');
+    }
+
+    #[tactic(auto, unfolding(crate::specs::Lines::given_line))]
+    fn given(&mut self, given: Given)
+        requires { self.old.at + 32 ≤ length self.old.text.now }
+        ensures same_text { self.new.text.ghost_name ≡ self.old.text.ghost_name }
+        ensures put { Put self.old.text.now self.old.at (given_line given) self.new.text.now self.new.at }
+        ensures upper_bound { self.new.at ≤ self.old.at + 32 }
+    {
+        match given {
+            Given::Sent(t) => self.transfer(t),
+            Given::Answered(x, transfers) => self.answer(number_of(x), value_of(x), transfers),
+            Given::Refused(x) => self.answer(number_of(x), 0, 0),
+            Given::IllFormed => self.answer(number_of(Answer::IllFormedSession), 0, 0),
+        }
+    }
+
+    fn fields(&mut self, d: Driver)
+        requires { self.old.at + 32 ≤ length self.old.text.now }
+        ensures same_text { self.new.text.ghost_name ≡ self.old.text.ghost_name }
+        ensures put { Put self.old.text.now self.old.at (fields_line d) self.new.text.now self.new.at }
+        ensures upper_bound { self.new.at ≤ self.old.at + 32 }
+    {
+        self.byte(b'F');
+        self.number(flag_of(d.up) as u32);
+        self.number(d.address as u32);
+        self.number(d.stop as u32);
+        self.number(d.budget);
+        self.byte(b'\n');
+    }
 }
 
 // What a record gave.
 pub fn outcome_line(text: &mut [u8], at: usize, o: Outcome) -> usize
     ensures { PutLine text.old at (outcome_line o) text.new result }
 {
-    if has_room(text.len(), at, 32) {
-        put_outcome(text, at, o)
-    } else {
-        at
+    if !has_room(text.len(), at, 32) {
+        return at;
     }
+    let mut line = Cursor { text, at };
+    line.given(o.given);
+    line.at
 }
 
 // The driver's fields.
 pub fn fields_line(text: &mut [u8], at: usize, d: Driver) -> usize
     ensures { PutLine text.old at (fields_line d) text.new result }
 {
-    if has_room(text.len(), at, 32) {
-        put_fields(text, at, d)
-    } else {
-        at
+    if !has_room(text.len(), at, 32) {
+        return at;
     }
+    let mut line = Cursor { text, at };
+    line.fields(d);
+    line.at
 }

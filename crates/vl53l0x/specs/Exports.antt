@@ -3,11 +3,11 @@ use Rattle.std.specs.Prelude.{◌≡◌, true, cond, List, ℕ, ◌≤◌, eqb, 
 use Rattle.session.specs.declared.Answer.{Answer}
 use Rattle.session.specs.declared.Session.{Session}
 use Rattle.session.specs.Bus.{byte, number_of}
+use Rattle.session.specs.Claim1.{outstanding}
 use Rattle.session.specs.Machine.{ill_formed, waits_now}
 use Rattle.session.specs.Records.{step_def}
 use Rattle.reactions.specs.declared.Outcome.{Outcome}
 use Rattle.reactions.specs.Outcome.{outcome_of}
-use Rattle.driver.specs.Replies.{outstanding_of}
 use Rattle.records.specs.Records.{record_in}
 use Rattle.layout.specs.Layout.{session_size, outcome_size, session_bytes, is_session, session_of, transfer_bytes, refusal_bytes, outcome_bytes}
 use Rattle.layout.specs.RoundTrip.{are_bytes}
@@ -38,7 +38,7 @@ fresh_number session = cond (eqb (length session) session_size) 0 (number_of Ans
 unfoldable pub outstanding_bytes : Session → List ℕ
 outstanding_bytes s =
     cond (ill_formed s) (refusal_bytes Answer.IllFormedSession)
-    (cond (waits_now s) (transfer_bytes (outstanding_of s)) (refusal_bytes Answer.NoCallWaits))
+    (cond (waits_now s) (transfer_bytes (outstanding s)) (refusal_bytes Answer.NoCallWaits))
 
 unfoldable pub outstanding_in : List ℕ → List ℕ
 outstanding_in session = cond (is_session session) (outstanding_bytes (session_of session)) (refusal_bytes Answer.IllFormedSession)

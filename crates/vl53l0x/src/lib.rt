@@ -1,13 +1,13 @@
 // The driver for callers in other languages: a session, a record and an outcome are lent bytes (crate layout), and nothing is kept here.
 #![tactic(auto)]
 
-ghost use Rattle.std.specs.Prelude.{◌≡◌, true, length};
+ghost use Rattle.std.specs.Prelude.{◌≡◌};
 ghost use Rattle.session.specs.Machine.{fresh_session};
-ghost use Rattle.layout.specs.Layout.{session_size, outcome_size, placed, placed_number, session_bytes, is_session};
-ghost use Rattle.vl53l0x.specs.Exports.{met, step_outcome, step_session, fresh_number, outstanding_bytes, outstanding_in};
+ghost use Rattle.layout.specs.Layout.{session_size, outcome_size, placed, placed_number, session_bytes, given_bytes};
+ghost use Rattle.vl53l0x.specs.Exports.{step_outcome, step_session, fresh_number, outstanding_in};
 
-use reactions::Outcome;
-use session::{Answer, Session};
+use reactions::Given;
+use session::Answer;
 
 // A fresh session. Returned is 0, or 15 where there are not 52 bytes.
 #[unsafe(no_mangle)]
@@ -23,14 +23,6 @@ pub extern "C" fn vl53l0x_fresh(session: &mut [u8]) -> u8
     }
 }
 
-// A record meets a session.
-fn meet(session: &[u8], record: &[u8]) -> Outcome
-    requires { is_session session.now ≡ true }
-    ensures { result ≡ met session.now «record».now }
-{
-    records::step(layout::session_in(session), records::record_at(record, 0))
-}
-
 // One record in, one outcome out. Returned is the outcome's number, or 17 where there are not 11 bytes for it.
 #[unsafe(no_mangle)]
 pub extern "C" fn vl53l0x_step(session: &mut [u8], record: &[u8], outcome: &mut [u8]) -> u8
@@ -42,29 +34,27 @@ pub extern "C" fn vl53l0x_step(session: &mut [u8], record: &[u8], outcome: &mut 
     if outcome.len() != 11 {
         return 17;
     }
-    if record.len() != 8 {
-        return layout::put_refusal(outcome, Answer::SpareBytes);
-    }
-    if layout::is_session(session) {
-        let o = meet(session, record);
-        let after = o.session;
-        layout::put_session(session, after);
-        layout::put_outcome(outcome, o)
-    } else {
-        layout::put_refusal(outcome, Answer::IllFormedSession)
-    }
+    let Some(eight) = record.as_array() else {
+        return layout::put_given(outcome, Given::Refused(Answer::SpareBytes));
+    };
+    let Some(s) = layout::session_of(session) else {
+        return layout::put_given(outcome, Given::IllFormed);
+    };
+    let o = records::step(s, *eight);
+    layout::put_session(session, o.session);
+    layout::put_given(outcome, o.given)
 }
 
-fn put_outstanding(s: Session, outcome: &mut [u8]) -> u8
-    ensures outcome_after { outcome.new ≡ placed outcome_size outcome.old (outstanding_bytes s) }
-    ensures value { result ≡ placed_number outcome.old (outstanding_bytes s) }
+fn outstanding_in(session: &[u8]) -> Given
+    ensures { given_bytes result ≡ outstanding_in session.now }
 {
-    if checks::ill_formed(s) {
-        layout::put_refusal(outcome, Answer::IllFormedSession)
-    } else if s.code == 0 {
-        layout::put_refusal(outcome, Answer::NoCallWaits)
-    } else {
-        layout::put_transfer(outcome, driver::outstanding(s))
+    let Some(s) = layout::session_of(session) else {
+        return Given::IllFormed;
+    };
+    match driver::outstanding(s) {
+        Some(t) => Given::Sent(t),
+        None if s.code == 0 => Given::Refused(Answer::NoCallWaits),
+        None => Given::IllFormed,
     }
 }
 
@@ -76,9 +66,5 @@ pub extern "C" fn vl53l0x_outstanding(session: &[u8], outcome: &mut [u8]) -> u8
     ensures value { result ≡ placed_number outcome.old (outstanding_in session.now) }
     ensures session_kept { session.exit.now ≡ session.entry.now }
 {
-    if layout::is_session(session) {
-        put_outstanding(layout::session_in(session), outcome)
-    } else {
-        layout::put_refusal(outcome, Answer::IllFormedSession)
-    }
+    layout::put_given(outcome, outstanding_in(session))
 }
