@@ -8,13 +8,14 @@ use native.Mathlib.Omega.{arith}
 use borrow.Author.Tests.{leb-true, leb-false, ltb-false, le-leb, not-false, ne_eqb}
 use lib.Dec.{eqb, ltb, leb, lit≤}
 use lib.ListN.{length, get_or, drop}
+use Rattle.std.specs.List.{list_any}
 use Rattle.session.specs.declared.Instruction.{Instruction}
 use Rattle.session.specs.declared.Session.{Session}
-use Rattle.session.specs.Bus.{detector_ready, status_ready, started, clean_from}
+use Rattle.session.specs.Bus.{detector_ready, status_ready, started}
 use Rattle.session.specs.Instructions.{Op, write, read, wait, range}
 use Rattle.session.specs.Steps.{op_of}
 use Rattle.session.specs.Calls.{ops_of, tuning, programs, program_of, top_code, ceilings, ceiling_of, greatest, greatest_of, arguments_ok}
-use Rattle.session.specs.Machine.{idle_wrong, up_wrong, malformed, ill_formed}
+use Rattle.session.specs.Machine.{all_zero, idle_wrong, up_wrong, malformed, ill_formed}
 use Rattle.session.proofs.Facts.{or_parts, both, untrue}
 use Rattle.session.proofs.Table.{by_code_lem, below_pass}
 use Rattle.session.proofs.Strays.{sound_step}
@@ -153,7 +154,11 @@ step_sound s h = at (leb (steps_in s.code) s.step) refl
     at true e = untrue (sym (sound_step s h) ∙ rw (past_end s.code s.step (leb-true _ _ e)) refl)
     at false e = leb-false _ _ e
 
--- beside a failure no byte may be set
-pub clean_failure : (f reads : ℕ) → (f ≡ 0 → ⊥) → 0 ≡ clean_from f reads
-clean_failure zero reads n = absurd (n refl)
-clean_failure (suc e) reads n = refl
+-- a byte that is not zero
+pub any_set : (l : List ℕ) → list_any (λ b. not (eqb b 0)) l ≡ not (all_zero l)
+any_set [] = refl
+any_set (x ∷ l) = at (any_set l) (eqb x 0)
+  where
+    at : list_any (λ b. not (eqb b 0)) l ≡ not (all_zero l) → (t : Bool) → not t || list_any (λ b. not (eqb b 0)) l ≡ not (t && all_zero l)
+    at e true = e
+    at e false = refl

@@ -8,6 +8,7 @@ use Rattle.session.specs.Steps.{op_of}
 use Rattle.calls.specs.Calls.{instruction_at, steps_in}
 use Rattle.steps.specs.Steps.{shape_of}
 use Rattle.steps.specs.declared.Kind.{Kind}
+use Rattle.checks.specs.declared.Limits.{Limits}
 
 pub record Sound (s : Session) : Type 0 where
   pub arguments : arguments_ok s.code s.a s.b ≡ true
@@ -28,6 +29,10 @@ greatest_a code = (greatest_of code).0
 
 unfoldable pub greatest_b : ℕ → ℕ
 greatest_b code = (greatest_of code).1
+
+-- by code: what a call may take, and the most transfers that it makes
+unfoldable pub limits_of : ℕ → Limits
+limits_of code = record { 0 = greatest_a code; 1 = greatest_b code; 2 = ceiling_of code }
 
 -- the kind of the instruction that a session stands at
 abbrev pub kind_at : Session → Kind

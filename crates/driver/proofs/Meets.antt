@@ -1,8 +1,8 @@
 -- What a call and a reply give, by their tests.
 use mathlib.Core.Path.{◌≡◌, refl, sym, ◌∙◌, subst}
-use mathlib.Core.Bool.{true, false}
+use mathlib.Core.Bool.{true, false, cond}
 use mathlib.Core.List.{List}
-use Prim.Native.Nat.{ℕ, zero, suc}
+use Prim.Native.Nat.{ℕ, zero, suc, ◌≤◌}
 use native.Mathlib.Omega.{arith}
 use borrow.Author.Tests.{ne_eqb}
 use Rattle.session.specs.declared.Instruction.{Instruction}
@@ -11,18 +11,19 @@ use Rattle.session.specs.declared.Transfer.{Transfer}
 use Rattle.session.specs.declared.Answer.{Answer}
 use Rattle.session.specs.Instructions.{Context, Op, write, read, wait, range, send_of}
 use Rattle.session.specs.Steps.{op_of}
-use Rattle.session.specs.Calls.{arguments_ok}
+use Rattle.session.specs.Calls.{arguments_ok, program_of}
 use Rattle.session.proofs.Facts.{both}
 use Rattle.std.specs.Prelude.{None, Some}
-use Rattle.session.specs.Machine.{refused, broken, context_of, stray, waits_now, malformed, ill_formed, begun, not_up, reply_def, begin_def, other_def}
+use Rattle.session.specs.Machine.{refused, broken, react, to_reply, context_of, stray, waits_now, malformed, ill_formed, begun, reply_def}
 use Rattle.calls.specs.Calls.{call_of, program_for, instruction_at}
 use Rattle.calls.proofs.Programs.{program_named}
-use Rattle.steps.specs.Steps.{shape_of, settled}
+use Rattle.steps.specs.Steps.{shape_of, settled, most_at}
 use Rattle.checks.specs.Sound.{Sound, stray_in}
 use Rattle.reactions.specs.Reactions.{way_of, plan_of, acting}
 use Rattle.reactions.proofs.Meets.{goes_by}
-use Rattle.driver.specs.Replies.{taking, replying, launching, beginning, outstanding_of}
-use Rattle.checks.proofs.Places.{at_step, step_sound}
+use Rattle.driver.specs.Replies.{launching, outstanding_of}
+use Rattle.checks.proofs.Places.{at_step, step_sound, written_fits, arguments_sound, well_formed}
+use Rattle.reactions.specs.Standing.{Ready}
 
 -- what the arguments of a call decide
 pub launches : (s : Session) → acting (plan_of (way_of (settled ((program_for (call_of s.code)).entry (context_of s))) 0 0) Instruction.Nowhere s) s ≡ launching s
@@ -42,15 +43,6 @@ unfolding stray stray_in
 stray_is t zero bs = refl
 stray_is t (suc e) bs = refl
 
-pub takes : (s : Session) (f : ℕ) (bs : List ℕ) → malformed s ≡ false
-    → taking (stray_in (shape_of (op_of (instruction_at s.code s.step))).reads f bs) (instruction_at s.code s.step) s f bs ≡ replying s f bs
-unfolding taking replying
-takes s f bs h =
-    sym
-    (rw (at_step s.code s.step (step_sound s h))
-    (rw (stray_is (send_of (op_of (instruction_at s.code s.step)) (context_of s)) f bs)
-    (rw (reads_of (op_of (instruction_at s.code s.step)) (context_of s)) refl)))
-
 pub sound_begun : (s : Session) (code a b : ℕ) (r : Session) → arguments_ok code a b ≡ true → r ≡ begun s code a b → Sound r
 sound_begun s code a b r h e = subst Sound (sym e) (record { arguments = h; transfers = omega arith })
 
@@ -66,38 +58,25 @@ module _ (s : Session) (f : ℕ) (bs : List ℕ) where
   unfolding reply_def
   reply_broken h = sym (rw h refl)
 
-  pub reply_11 : ill_formed s ≡ false → s.code ≡ 0 → refused Answer.NoCallWaits s ≡ reply_def s f bs
+  -- 12, and what the call makes of a reply, at the instruction that the session stands at
+  pub reply_on : ill_formed s ≡ false → (s.code ≡ 0 → ⊥)
+      → reply_def s f bs
+      ≡ cond (stray_in (shape_of (op_of (instruction_at s.code s.step))).reads f bs) (refused Answer.StrayByte s)
+      (react (op_of (instruction_at s.code s.step)) (program_of s.code) s (to_reply f bs))
   unfolding reply_def
-  reply_11 h e = sym (rw (h, e) refl)
+  reply_on h n =
+      rw (h, waits s n)
+      (rw (at_step s.code s.step (step_sound s (waiting_sound s h n)))
+      (rw (stray_is (send_of (op_of (instruction_at s.code s.step)) (context_of s)) f bs)
+      (rw (reads_of (op_of (instruction_at s.code s.step)) (context_of s)) refl)))
 
-  pub reply_on : ill_formed s ≡ false → (s.code ≡ 0 → ⊥) → replying s f bs ≡ reply_def s f bs
-  unfolding reply_def replying
-  reply_on h n = sym (rw (h, waits s n) refl)
-
-module _ (s : Session) (code a b : ℕ) where
-  pub begin_broken : ill_formed s ≡ true → broken s ≡ begin_def s code a b
-  unfolding begin_def
-  begin_broken h = sym (rw h refl)
-
-  pub begin_13 : ill_formed s ≡ false → arguments_ok code a b ≡ false → refused Answer.IllFormedRecord s ≡ begin_def s code a b
-  unfolding begin_def
-  begin_13 h o = sym (rw (h, o) refl)
-
-  pub begin_10 : ill_formed s ≡ false → arguments_ok code a b ≡ true → (s.code ≡ 0 → ⊥) → refused Answer.CallWaits s ≡ begin_def s code a b
-  unfolding begin_def
-  begin_10 h o n = sym (rw (h, o, waits s n) refl)
-
-  pub begin_on : ill_formed s ≡ false → arguments_ok code a b ≡ true → s.code ≡ 0 → beginning (not_up code s.driver.up) s (begun s code a b) ≡ begin_def s code a b
-  unfolding begin_def beginning launching
-  begin_on h o e = sym (rw (h, o, e) refl)
-
-pub other_broken : (s : Session) → ill_formed s ≡ true → broken s ≡ other_def s
-unfolding other_def
-other_broken s h = sym (rw h refl)
-
-pub other_13 : (s : Session) → ill_formed s ≡ false → refused Answer.IllFormedRecord s ≡ other_def s
-unfolding other_def
-other_13 s h = sym (rw h refl)
+-- what is known where a session waits at an instruction
+pub ready_at : (s : Session) (i : Instruction) → i ≡ instruction_at s.code s.step → malformed s ≡ false → Ready i s
+ready_at s i e h =
+    record {
+      sound = well_formed s h;
+      fits = subst (λ (k : Instruction). s.a ≤ most_at k) (sym e) (written_fits s.code s.a s.b (arguments_sound s h) s.step);
+    }
 
 -- the transfer that is out
 pub out_ill : (s : Session) → ill_formed s ≡ true → None ≡ outstanding_of s

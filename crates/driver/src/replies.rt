@@ -1,90 +1,51 @@
 // A reply of the bus, and the transfer that a session has out.
-ghost use Rattle.std.specs.Prelude.{◌≡◌};
-ghost use Rattle.session.specs.Machine.{refused, broken, ill_formed, reply_def};
-ghost use Rattle.session.specs.Steps.{op_of};
-ghost use Rattle.calls.specs.Calls.{instruction_at};
-ghost use Rattle.steps.specs.Steps.{shape_of};
-ghost use Rattle.checks.specs.Sound.{stray_in};
+ghost use Rattle.std.specs.Prelude.{◌≡◌, false};
+ghost use Rattle.session.specs.Machine.{reply_def};
+ghost use Rattle.session.specs.declared.Instruction.{Instruction};
 ghost use Rattle.reactions.specs.Outcome.{outcome_of};
-ghost use Rattle.reactions.specs.Reactions.{Taken, Reaches};
-ghost use Rattle.driver.specs.Replies.{taking, outstanding_of};
+ghost use Rattle.reactions.specs.Standing.{leads};
+ghost use Rattle.reactions.specs.Reactions.{plan_of, acting, Reaches};
+ghost use Rattle.driver.specs.Replies.{outstanding_of};
 
 use checks::{ill_formed, ill_formed_at, stray};
-use reactions::{Course, Outcome, Way, go, react, transfer_of};
-use session::{Answer, Instruction, Session, Transfer};
-use steps::Shape;
+use reactions::{Course, Outcome, Standing, Way, go, react, transfer_of};
+use session::{Answer, Instruction, ReplyRecord, Session, Transfer};
 
 // A refusal keeps the session.
-pub(crate) fn refuse(x: Answer, s: Session) -> Course
-    ensures { Reaches result (refused x s) }
+#[tactic(auto, unfolding(reactions::specs::Reactions::reached))]
+pub(crate) fn stays(way: Way, s: Session) -> Course
+    requires { leads way ≡ false }
+    ensures { Reaches result (acting (plan_of way Instruction.Nowhere s) s) }
 {
     Course {
-        way: Way::Refused(x),
+        way,
         at: Instruction::Nowhere,
         session: s,
-    }
-}
-
-pub(crate) fn broken(s: Session) -> Course
-    ensures { Reaches result (broken s) }
-{
-    Course {
-        way: Way::IllFormed,
-        at: Instruction::Nowhere,
-        session: s,
-    }
-}
-
-// Unless it has stray bytes, a reply is taken.
-fn take(strays: bool, i: Instruction, x: Shape, s: Session, failure: u8, bytes: [u8; 6]) -> Course
-    requires { Taken i x s }
-    ensures { Reaches result (taking strays i s failure bytes) }
-{
-    if strays {
-        refuse(Answer::StrayByte, s)
-    } else {
-        react(i, x, s, failure, bytes)
-    }
-}
-
-fn take_at(i: Instruction, x: Shape, s: Session, failure: u8, bytes: [u8; 6]) -> Course
-    requires { Taken i x s }
-    ensures { Reaches result (taking (stray_in x.reads failure bytes) i s failure bytes) }
-{
-    take(stray(x.reads, failure, bytes), i, x, s, failure, bytes)
-}
-
-// The reply to the instruction that a session stands at.
-fn reply_at(ill: bool, i: Instruction, x: Shape, s: Session, failure: u8, bytes: [u8; 6]) -> Course
-    requires ill_value { ill ≡ ill_formed s }
-    requires i_value { i ≡ instruction_at s.code s.step }
-    requires x_value { x ≡ shape_of (op_of i) }
-    ensures { Reaches result (reply_def s failure bytes) }
-{
-    if ill {
-        broken(s)
-    } else if s.code == 0 {
-        refuse(Answer::NoCallWaits, s)
-    } else {
-        take_at(i, x, s, failure, bytes)
     }
 }
 
 // The instruction is looked up once, for the tests of 15 and 12 and for what the reply does.
-pub fn reply_course(s: Session, failure: u8, bytes: [u8; 6]) -> Course
-    ensures { Reaches result (reply_def s failure bytes) }
+#[tactic(auto, unfolding(reactions::specs::Standing::leads, reactions::specs::Reactions::plan_of, reactions::specs::Reactions::acting, session::specs::Machine::reply_def))]
+pub fn reply_course(s: Session, reply: ReplyRecord) -> Course
+    ensures { Reaches result (reply_def s reply.failure reply.data) }
 {
-    let i = calls::instruction_at(s.code, s.step);
-    let x = steps::shape_of(i);
-    let kind = x.kind;
-    reply_at(ill_formed_at(s, kind), i, x, s, failure, bytes)
+    let at = calls::instruction_at(s.code, s.step);
+    let shape = steps::shape_of(at);
+    if ill_formed_at(s, shape.kind) {
+        stays(Way::IllFormed, s)
+    } else if s.code == 0 {
+        stays(Way::Refused(Answer::NoCallWaits), s)
+    } else if stray(shape.reads, reply) {
+        stays(Way::Refused(Answer::StrayByte), s)
+    } else {
+        react(Standing { at, session: s }, shape, reply)
+    }
 }
 
-// A reply: the failure code or 0, and six data bytes.
-pub fn reply(s: Session, failure: u8, bytes: [u8; 6]) -> Outcome
-    ensures { result ≡ outcome_of (reply_def s failure bytes) }
+pub fn reply(s: Session, reply: ReplyRecord) -> Outcome
+    ensures { result ≡ outcome_of (reply_def s reply.failure reply.data) }
 {
-    go(reply_course(s, failure, bytes))
+    go(reply_course(s, reply))
 }
 
 // The transfer that a waiting session has out; none where no call waits or the session is ill-formed.
@@ -94,5 +55,8 @@ pub fn outstanding(s: Session) -> Option<Transfer>
     if ill_formed(s) || s.code == 0 {
         return None;
     }
-    Some(transfer_of(calls::instruction_at(s.code, s.step), s))
+    Some(transfer_of(Standing {
+        at: calls::instruction_at(s.code, s.step),
+        session: s,
+    }))
 }

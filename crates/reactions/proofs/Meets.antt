@@ -14,7 +14,7 @@ use Rattle.session.specs.Bus.{Condition, detector_ready, status_ready, started, 
 use Rattle.session.specs.Instructions.{Final, success, failure, Verdict, onward, leap, stop, test, Op, write, read, wait, range, send_of, read_wins, report_of}
 use Rattle.session.specs.Steps.{op_of}
 use Rattle.session.specs.Calls.{program_of}
-use Rattle.session.specs.Machine.{Outcome as Result, sent, context_of, sending, giving, conclude, arrive, decide, react, to_reply}
+use Rattle.session.specs.Machine.{sent, context_of, sending, giving, conclude, arrive, decide, react, to_reply}
 use Rattle.calls.specs.Calls.{call_of, program_for, instruction_at, steps_in}
 use Rattle.calls.proofs.Programs.{program_named}
 use Rattle.steps.specs.declared.Kind.{Kind}
@@ -25,10 +25,8 @@ use Rattle.checks.specs.Sound.{Sound, limit_of}
 use Rattle.checks.proofs.Places.{at_step, past_end, written_fits}
 use Rattle.reactions.specs.declared.Way.{Way}
 use Rattle.reactions.specs.declared.Plan.{Plan}
-use Rattle.reactions.specs.declared.Course.{Course}
-use Rattle.reactions.specs.declared.Outcome.{Outcome}
-use Rattle.reactions.specs.Outcome.{outcome_of}
-use Rattle.reactions.specs.Reactions.{keep_failure, with_failure, keeps, keep_if, kept_by, way_of, reported, idling, waiting, decides, decided_by, wait_way, good_way, failed_way, way_after, leads, arrival_at, plan_of, moves, SoundIf, most_in, ending, concluding, acting, reached, Reaches}
+use Rattle.reactions.specs.Standing.{leads, SoundIf}
+use Rattle.reactions.specs.Reactions.{keep_failure, with_failure, keeps, keep_if, kept_by, way_of, reported, idling, waiting, decides, decided_by, wait_way, good_way, failed_way, way_after, arrival_at, plan_of, moves, most_in, ending, concluding, acting}
 
 -- on to a step
 arrives : (k : ℕ) (s : Session) → acting (arrival_at k s) s ≡ arrive (program_of s.code) k s
@@ -184,11 +182,3 @@ report_none code failed e h n = sym (rw (h, n) refl)
 pub report_read : (code failed e : ℕ) → code ≡ 6 → (failed ≡ 0 → ⊥) → failed ≡ report_of (read_wins code) failed e
 report_read code zero e h n = absurd (n refl)
 report_read code (suc k) e h n = sym (rw h refl)
-
--- a course to what is the same
-pub reaches_as : {c : Course} {o p : Result} → Reaches c o → o ≡ p → Reaches c p
-reaches_as h e = record { fit = h.fit; result = h.result ∙ e }
-
--- the outcome of a course that was gone
-pub gone : {c : Course} {o : Result} {r : Outcome} → Reaches c o → r ≡ outcome_of (reached c) → r ≡ outcome_of o
-gone h e = e ∙ ap outcome_of h.result

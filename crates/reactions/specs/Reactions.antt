@@ -1,6 +1,6 @@
 -- Where a record takes a session, in four steps over the plain data of the instruction that it stands at: what is kept of a reply, which way it
 -- leads, what that comes to, and the outcome. That this is the machine's `react` is proved. A course is a way with the session that goes it.
-use Rattle.std.specs.Prelude.{Bool, true, false, cond, ◌&&◌, ◌≡◌, List, ℕ, suc, ◌+◌, ◌≤◌, eqb, ltb}
+use Rattle.std.specs.Prelude.{Bool, true, false, cond, ◌&&◌, ◌≡◌, List, ℕ, suc, ◌+◌, eqb, ltb}
 use Rattle.session.specs.declared.Session.{Session}
 use Rattle.session.specs.declared.Answer.{Answer}
 use Rattle.session.specs.declared.Instruction.{Instruction}
@@ -14,10 +14,10 @@ use Rattle.steps.specs.declared.Kind.{Kind}
 use Rattle.steps.specs.declared.Next.{Next}
 use Rattle.ends.specs.declared.End.{End}
 use Rattle.steps.specs.declared.Shape.{Shape}
-use Rattle.steps.specs.Steps.{shape_of, most_at, verdict_of, settled, keeping}
-use Rattle.checks.specs.Sound.{Sound, limit_of}
+use Rattle.steps.specs.Steps.{most_at, verdict_of, settled, keeping}
+use Rattle.checks.specs.Sound.{limit_of}
 use Rattle.reactions.specs.declared.Way.{Way}
-use Rattle.reactions.specs.declared.Course.{Course}
+use Rattle.reactions.specs.declared.standing.Course.{Course}
 use Rattle.reactions.specs.declared.Plan.{Plan}
 
 -- the failure code of a range read is kept
@@ -114,14 +114,6 @@ failed_way Kind.Range f s = Way.To (suc s.step)
 unfoldable pub way_after : Kind → Op → Shape → Session → ℕ → List ℕ → Way
 way_after kind op x s f bs = cond (eqb f 0) (good_way kind op x s bs) (failed_way kind f s)
 
--- does a way stay in the session's call?
-unfoldable pub leads : Way → Bool
-leads (Way.To k) = true
-leads (Way.Again n) = true
-leads (Way.Out x) = true
-leads (Way.Refused x) = false
-leads Way.IllFormed = false
-
 -- what a way comes to: a transfer at a step, the end of the call after its last instruction, an answer, or a session that stays
 unfoldable pub arrival_at : ℕ → Session → Plan
 arrival_at k s = cond (ltb k (steps_in s.code)) (Plan.Send (instruction_at s.code k) k 0) Plan.End
@@ -139,10 +131,6 @@ moves Plan.End = true
 moves (Plan.Answer x) = true
 moves (Plan.Refused x) = false
 moves Plan.IllFormed = false
-
--- what is known of a session that its call goes on with
-abbrev pub SoundIf : Bool → Session → Type 0
-SoundIf on s = on ≡ true → Sound s
 
 -- a call ends
 unfoldable pub ending : End → Session → Result
@@ -167,22 +155,10 @@ most_in (Plan.Answer x) = 4294967295
 most_in (Plan.Refused x) = 4294967295
 most_in Plan.IllFormed = 4294967295
 
--- what the code knows where a reply to an instruction is taken
-pub record Taken (i : Instruction) (x : Shape) (s : Session) : Type 0 where
-  pub sound : Sound s
-  pub fits : s.a ≤ most_at i
-  pub shape : x ≡ shape_of (op_of i)
-
 -- what a course comes to
 unfoldable pub reached : Course → Result
 reached c = acting (plan_of c.way c.at c.session) c.session
 
--- a course that the code can go: its session is sound, and what its instruction writes fits
-pub record Fit (c : Course) : Type 0 where
-  pub sound : SoundIf (leads c.way) c.session
-  pub fits : c.session.a ≤ most_at c.at
-
--- a course that the code can go, and what it comes to
-pub record Reaches (c : Course) (o : Result) : Type 0 where
-  pub fit : Fit c
-  pub result : reached c ≡ o
+-- a course, and what it comes to
+abbrev pub Reaches : Course → Result → Type 0
+Reaches c o = reached c ≡ o

@@ -4,21 +4,24 @@
 mod kept;
 mod outcomes;
 mod plans;
+mod standing;
 mod ways;
 
 ghost use Rattle.std.specs.Prelude.{◌≡◌};
 ghost use Rattle.session.specs.Calls.{program_of};
 ghost use Rattle.session.specs.Machine.{react, to_reply};
 ghost use Rattle.session.specs.Steps.{op_of};
+ghost use Rattle.steps.specs.Steps.{shape_of};
 ghost use Rattle.reactions.specs.Outcome.{outcome_of};
-ghost use Rattle.reactions.specs.Reactions.{Taken, reached, Fit, Reaches};
+ghost use Rattle.reactions.specs.Reactions.{reached, Reaches};
 
 use crate::kept::kept_by;
 use crate::outcomes::act;
 use crate::plans::plan_of;
 use crate::ways::way_after;
 pub use outcomes::{resting, transfer_of};
-use session::{Answer, Instruction, Session, Transfer};
+use session::{Answer, Instruction, ReplyRecord, Session, Transfer};
+pub use standing::{Course, Standing};
 use steps::Shape;
 pub use ways::way_of;
 
@@ -49,14 +52,6 @@ pub enum Way {
     IllFormed,
 }
 
-// A way from an instruction, and the session that goes it.
-#[derive(Clone, Copy)]
-pub struct Course {
-    pub way: Way,
-    pub at: Instruction,
-    pub session: Session,
-}
-
 // What that comes to: an instruction is sent at a step after so many idle reads there, the call ends after its last
 // instruction or with an answer, or the session stays.
 #[derive(Clone, Copy)]
@@ -69,26 +64,23 @@ pub enum Plan {
 }
 
 // A course, to its end.
+#[tactic(auto, unfolding(crate::specs::Reactions::reached))]
 pub fn go(c: Course) -> Outcome
-    requires { Fit c }
     ensures { result ≡ outcome_of (reached c) }
 {
-    let way = c.way;
-    let at = c.at;
-    let session = c.session;
-    act(plan_of(way, at, session), session)
+    act(plan_of(c.way, c.at, c.session), c.session)
 }
 
-// The course of a session that waits for the reply to an instruction.
-pub fn react(i: Instruction, x: Shape, s: Session, failure: u8, bytes: [u8; 6]) -> Course
-    requires { Taken i x s }
-    ensures { Reaches result (react (op_of i) (program_of s.code) s (to_reply failure bytes)) }
+// The course of a session that waits for the reply to an instruction of a shape.
+pub fn react(s: Standing, shape: Shape, reply: ReplyRecord) -> Course
+    requires { shape ≡ shape_of (op_of s.at) }
+    ensures { Reaches result (react (op_of s.at) (program_of s.session.code) s.session (to_reply reply.failure reply.data)) }
 {
-    let t = kept_by(x, s, failure, bytes);
-    let way = way_after(i, x, t, failure, bytes);
+    let session = kept_by(shape, s.session, reply);
+    let way = way_after(s.at, shape, session, reply);
     Course {
         way,
-        at: i,
-        session: t,
+        at: s.at,
+        session,
     }
 }

@@ -3,12 +3,11 @@ ghost use Rattle.std.specs.Prelude.{◌≡◌, ◌≤◌};
 ghost use Rattle.session.specs.Instructions.{send_of};
 ghost use Rattle.session.specs.Machine.{sent, refused, broken, context_of, address_of, sending, resting, answering, giving};
 ghost use Rattle.session.specs.Steps.{op_of};
-ghost use Rattle.steps.specs.Steps.{most_at};
-ghost use Rattle.checks.specs.Sound.{Sound};
 ghost use Rattle.reactions.specs.Outcome.{outcome_of};
-ghost use Rattle.reactions.specs.Reactions.{moves, SoundIf, most_in, ending, concluding, acting};
+ghost use Rattle.reactions.specs.Standing.{SoundIf};
+ghost use Rattle.reactions.specs.Reactions.{moves, most_in, ending, concluding, acting};
 
-use crate::{Given, Outcome, Plan};
+use crate::{Given, Outcome, Plan, Standing};
 use ends::End;
 use session::{Answer, Driver, Instruction, Session, Transfer};
 
@@ -35,45 +34,38 @@ fn sending(step: u8, idle: u32, s: Session) -> Session
     requires { s.transfers ≤ 4294967294 }
     ensures { result ≡ sending step idle s }
 {
-    let mut t = s;
-    t.step = step;
-    t.idle = idle;
-    t.transfers = s.transfers + 1;
-    t
-}
-
-// A bring-up's transfers go to its own address.
-fn address_of(s: Session) -> u8
-    requires { Sound s }
-    ensures { result ≡ address_of s.code s.a s.driver }
-{
-    if s.code == 1 {
-        (s.a % 256) as u8
-    } else {
-        let driver = s.driver;
-        driver.address
+    Session {
+        step,
+        idle,
+        transfers: s.transfers + 1,
+        ..s
     }
 }
 
-pub fn transfer_of(i: Instruction, s: Session) -> Transfer
-    requires sound { Sound s }
-    requires a_bound { s.a ≤ most_at i }
-    ensures { result ≡ send_of (op_of i) (context_of s) }
+// A bring-up's transfers go to its own address.
+fn address_of(s: Standing) -> u8
+    ensures { result ≡ address_of s.session.code s.session.a s.session.driver }
 {
-    transfers::transfer_to(address_of(s), i, s)
+    if s.session.code == 1 {
+        (s.session.a % 256) as u8
+    } else {
+        s.session.driver.address
+    }
+}
+
+pub fn transfer_of(s: Standing) -> Transfer
+    ensures { result ≡ send_of (op_of s.at) (context_of s.session) }
+{
+    transfers::transfer_to(address_of(s), s.at, s.session)
 }
 
 #[tactic(auto, unfolding(crate::specs::Outcome::outcome_of))]
-fn send(i: Instruction, step: u8, idle: u32, s: Session) -> Outcome
-    requires sound { Sound s }
-    requires a_bound { s.a ≤ most_at i }
-    ensures { result ≡ outcome_of (sent (send_of (op_of i) (context_of s)) (sending step idle s)) }
+fn send(s: Standing, step: u8, idle: u32) -> Outcome
+    ensures { result ≡ outcome_of (sent (send_of (op_of s.at) (context_of s.session)) (sending step idle s.session)) }
 {
-    let transfer = transfer_of(i, s);
-    let session = sending(step, idle, s);
     Outcome {
-        given: Given::Sent(transfer),
-        session,
+        given: Given::Sent(transfer_of(s)),
+        session: sending(step, idle, s.session),
     }
 }
 
@@ -96,6 +88,7 @@ fn give(x: Answer, s: Session) -> Outcome
     answer(x, steps::held(s.code, driver), s)
 }
 
+#[tactic(auto, unfolding(crate::specs::Reactions::ending))]
 fn end(how: End, s: Session) -> Outcome
     ensures { result ≡ outcome_of (ending how s) }
 {
@@ -106,11 +99,13 @@ fn end(how: End, s: Session) -> Outcome
 }
 
 // With no instruction left the call ends.
-fn conclude(s: Session) -> Outcome
-    requires { Sound s }
-    ensures { result ≡ outcome_of (concluding s) }
+fn conclude(s: Standing) -> Outcome
+    ensures { result ≡ outcome_of (concluding s.session) }
 {
-    end(ends::final_of(calls::call_of(s.code), s), s)
+    end(
+        ends::final_of(calls::call_of(s.session.code), s.session),
+        s.session,
+    )
 }
 
 #[tactic(auto, unfolding(crate::specs::Outcome::outcome_of, crate::specs::Reactions::acting))]
@@ -120,9 +115,13 @@ pub(crate) fn act(plan: Plan, s: Session) -> Outcome
     ensures { result ≡ outcome_of (acting plan s) }
 {
     match plan {
-        Plan::Send(i, step, idle) => send(i, step, idle, s),
-        Plan::End => conclude(s),
+        Plan::Send(at, step, idle) => send(Standing { at, session: s }, step, idle),
+        Plan::End => conclude(Standing {
+            at: Instruction::Nowhere,
+            session: s,
+        }),
         Plan::Answer(x) => give(x, s),
+        // A refusal keeps the session.
         Plan::Refused(x) => Outcome {
             given: Given::Refused(x),
             session: s,

@@ -1,29 +1,23 @@
 // What a way comes to.
 ghost use Rattle.std.specs.Prelude.{◌≡◌};
-ghost use Rattle.calls.specs.Calls.{steps_in};
 ghost use Rattle.reactions.specs.Reactions.{arrival_at, plan_of};
 
 use crate::{Plan, Way};
 use session::{Instruction, Session};
 
-fn arrival_within(length: u8, step: u32, s: Session) -> Plan
-    requires { length ≡ steps_in s.code }
+// The instruction at a step of the session's call; past the last, the end.
+#[tactic(auto, unfolding(crate::specs::Reactions::arrival_at))]
+fn arrival_at(step: u32, s: Session) -> Plan
     ensures { result ≡ arrival_at step s }
 {
-    if step < length as u32 {
+    if step < calls::steps_in(s.code) as u32 {
         Plan::Send(calls::instruction_at(s.code, step as u8), step as u8, 0)
     } else {
         Plan::End
     }
 }
 
-// The instruction at a step of the session's call; past the last, the end.
-fn arrival_at(step: u32, s: Session) -> Plan
-    ensures { result ≡ arrival_at step s }
-{
-    arrival_within(calls::steps_in(s.code), step, s)
-}
-
+#[tactic(auto, unfolding(crate::specs::Reactions::plan_of))]
 pub(crate) fn plan_of(way: Way, i: Instruction, s: Session) -> Plan
     ensures { result ≡ plan_of way i s }
 {

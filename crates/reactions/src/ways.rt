@@ -5,10 +5,11 @@ ghost use Rattle.reactions.specs.Reactions.{way_of, reported, idling, waiting, d
 
 use crate::Way;
 use checks::limit_of;
-use session::{Answer, Instruction, Session};
+use session::{Answer, Instruction, ReplyRecord, Session};
 use steps::{Kind, Next, Shape};
 
 // A leap leaves out `over` instructions.
+#[tactic(auto, unfolding(crate::specs::Reactions::way_of))]
 pub fn way_of(next: Next, over: u8, step: u16) -> Way
     ensures { result ≡ way_of next over step }
 {
@@ -20,6 +21,7 @@ pub fn way_of(next: Next, over: u8, step: u16) -> Way
 }
 
 // If clearing fails after a failed range read, call 6 reports the read's code.
+#[tactic(auto, unfolding(crate::specs::Reactions::reported))]
 fn reported(code: u8, s: Session) -> u8
     ensures { result ≡ reported code s }
 {
@@ -31,6 +33,7 @@ fn reported(code: u8, s: Session) -> u8
 }
 
 // The read that reaches the limit idle gives Timeout.
+#[tactic(auto, unfolding(crate::specs::Reactions::idling))]
 fn idling(idle: u32, limit: u32) -> Way
     ensures { result ≡ idling idle limit }
 {
@@ -42,6 +45,7 @@ fn idling(idle: u32, limit: u32) -> Way
     }
 }
 
+#[tactic(auto, unfolding(crate::specs::Reactions::waiting))]
 fn waiting(idle: bool, limit: u32, s: Session) -> Way
     ensures { result ≡ waiting idle limit s }
 {
@@ -52,6 +56,7 @@ fn waiting(idle: bool, limit: u32, s: Session) -> Way
     }
 }
 
+#[tactic(auto, unfolding(crate::specs::Reactions::decided_by))]
 fn decided(i: Instruction, over: u8, s: Session) -> Way
     ensures { result ≡ decided_by (op_of i) over s }
 {
@@ -59,65 +64,56 @@ fn decided(i: Instruction, over: u8, s: Session) -> Way
 }
 
 // Does a good reply decide where the call goes, and not how long it waits?
+#[tactic(auto, unfolding(crate::specs::Reactions::decides))]
 fn decides(kind: Kind) -> bool
     ensures { result ≡ decides kind }
 {
-    match kind {
-        Kind::Write => true,
-        Kind::Read => true,
-        Kind::Detector => false,
-        Kind::Status => false,
-        Kind::Start => false,
-        Kind::Range => false,
-    }
+    matches!(kind, Kind::Write | Kind::Read)
 }
 
+#[tactic(auto, unfolding(crate::specs::Reactions::wait_way, session::specs::Bus::idle_on))]
 fn wait_way(kind: Kind, s: Session, bytes: [u8; 6]) -> Way
     ensures { result ≡ wait_way kind s bytes }
 {
     match kind {
-        Kind::Write => Way::To(s.step as u32 + 1),
-        Kind::Read => Way::To(s.step as u32 + 1),
         Kind::Detector => waiting(bytes[0] == 0, limit_of(s.code, Kind::Detector), s),
         Kind::Status => waiting(bytes[0] % 8 == 0, limit_of(s.code, Kind::Status), s),
         Kind::Start => waiting(bytes[0] % 2 != 0, limit_of(s.code, Kind::Start), s),
-        Kind::Range => Way::To(s.step as u32 + 1),
+        Kind::Write | Kind::Read | Kind::Range => Way::To(s.step as u32 + 1),
     }
 }
 
+#[tactic(auto, unfolding(crate::specs::Reactions::good_way))]
 fn good_way(i: Instruction, x: Shape, s: Session, bytes: [u8; 6]) -> Way
     ensures { result ≡ good_way x.kind (op_of i) x s bytes }
 {
-    let kind = x.kind;
-    if decides(kind) {
+    if decides(x.kind) {
         decided(i, x.over, s)
     } else {
-        wait_way(kind, s, bytes)
+        wait_way(x.kind, s, bytes)
     }
 }
 
 // After a failed range read the call goes on; any other failure ends it.
+#[tactic(auto, unfolding(crate::specs::Reactions::failed_way))]
 fn failed_way(kind: Kind, failure: u8, s: Session) -> Way
     ensures { result ≡ failed_way kind failure s }
 {
     match kind {
         Kind::Write => Way::Out(Answer::BusError(reported(failure, s))),
-        Kind::Read => Way::Out(Answer::BusError(failure)),
-        Kind::Detector => Way::Out(Answer::BusError(failure)),
-        Kind::Status => Way::Out(Answer::BusError(failure)),
-        Kind::Start => Way::Out(Answer::BusError(failure)),
         Kind::Range => Way::To(s.step as u32 + 1),
+        _ => Way::Out(Answer::BusError(failure)),
     }
 }
 
 // Where a session that has kept a reply goes.
-pub(crate) fn way_after(i: Instruction, x: Shape, s: Session, failure: u8, bytes: [u8; 6]) -> Way
-    ensures { result ≡ way_after x.kind (op_of i) x s failure bytes }
+#[tactic(auto, unfolding(crate::specs::Reactions::way_after))]
+pub(crate) fn way_after(i: Instruction, x: Shape, s: Session, reply: ReplyRecord) -> Way
+    ensures { result ≡ way_after x.kind (op_of i) x s reply.failure reply.data }
 {
-    let kind = x.kind;
-    if failure == 0 {
-        good_way(i, x, s, bytes)
+    if reply.failure == 0 {
+        good_way(i, x, s, reply.data)
     } else {
-        failed_way(kind, failure, s)
+        failed_way(x.kind, reply.failure, s)
     }
 }

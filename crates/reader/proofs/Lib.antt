@@ -1,3 +1,2 @@
-pub mod ByKind
 pub mod InOrder
 pub mod Agrees

@@ -3,7 +3,6 @@
 use Rattle.std.specs.Prelude.{◌≡◌, Bool, true, false, cond, List, [], ◌∷◌, ◌++◌, map, ℕ, zero, suc, ◌+◌, leb, length, get_or}
 use Rattle.session.specs.declared.Answer.{Answer}
 use Rattle.session.specs.declared.Session.{Session}
-use Rattle.session.specs.Bus.{byte}
 use Rattle.session.specs.History.{Run, stopped, run_records, run_def}
 use Rattle.session.specs.Records.{Record, call, reply, other, records_of, is_whole}
 use Rattle.records.specs.Records.{record_in, record_at}
@@ -11,8 +10,8 @@ use Rattle.reader.specs.declared.Event.{Event}
 
 -- a record as an event
 unfoldable pub event_of : Record → Event
-event_of (call code a b) = Event.Call code a b
-event_of (reply f bs) = Event.Reply f (byte 0 bs) (byte 1 bs) (byte 2 bs) (byte 3 bs) (byte 4 bs) (byte 5 bs)
+event_of (call code a b) = Event.Call (record { code = code; a = a; b = b })
+event_of (reply f bs) = Event.Reply (record { failure = f; «data» = bs })
 event_of other = Event.Other
 
 -- 01: "list length not a multiple of 8" is answer 14
@@ -43,8 +42,8 @@ place_after_all (suc n) at l = place_after_all n (place_after at l) l
 -- the records among events, up to the end
 abbrev pub records_in : List Event → List Record
 records_in [] = []
-records_in (Event.Call code a b ∷ es) = call code a b ∷ records_in es
-records_in (Event.Reply f b₀ b₁ b₂ b₃ b₄ b₅ ∷ es) = reply f (b₀ ∷ b₁ ∷ b₂ ∷ b₃ ∷ b₄ ∷ b₅ ∷ []) ∷ records_in es
+records_in (Event.Call c ∷ es) = call c.code c.a c.b ∷ records_in es
+records_in (Event.Reply r ∷ es) = reply r.failure r.«data» ∷ records_in es
 records_in (Event.Other ∷ es) = other ∷ records_in es
 records_in (Event.End ∷ es) = []
 records_in (Event.Spare ∷ es) = []
@@ -52,8 +51,8 @@ records_in (Event.Spare ∷ es) = []
 -- is the end reached, and no spare bytes?
 abbrev pub ends_in : List Event → Bool
 ends_in [] = false
-ends_in (Event.Call code a b ∷ es) = ends_in es
-ends_in (Event.Reply f b₀ b₁ b₂ b₃ b₄ b₅ ∷ es) = ends_in es
+ends_in (Event.Call c ∷ es) = ends_in es
+ends_in (Event.Reply r ∷ es) = ends_in es
 ends_in (Event.Other ∷ es) = ends_in es
 ends_in (Event.End ∷ es) = true
 ends_in (Event.Spare ∷ es) = false

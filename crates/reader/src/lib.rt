@@ -7,13 +7,13 @@ ghost use Rattle.std.specs.Prelude.{◌≡◌};
 ghost use Rattle.reader.specs.Events.{event_at, place_after, event_number};
 
 pub use events::{event_at, place_after};
+use session::{CallRecord, ReplyRecord};
 
-// A call with its code and arguments, a reply with its failure code and six data bytes, a record that is neither, the end, or fewer than eight
-// bytes (answer 14). The data bytes stand one by one.
+// A call, a reply, a record that is neither, the end, or fewer than eight bytes (answer 14).
 #[derive(Clone, Copy)]
 pub enum Event {
-    Call(u8, u32, u16),
-    Reply(u8, u8, u8, u8, u8, u8, u8),
+    Call(CallRecord),
+    Reply(ReplyRecord),
     Other,
     End,
     Spare,

@@ -1,5 +1,6 @@
 -- The counts that the code keeps are counts over the history.
-use mathlib.Core.Path.{◌≡◌, refl}
+use mathlib.Core.Path.{◌≡◌, refl, ap}
+use Rattle.std.proofs.Common.{Some}
 use mathlib.Core.Bool.{Bool, true, false, cond}
 use mathlib.Core.List.{List, ◌∷◌}
 use Prim.Native.Nat.{ℕ}
@@ -42,20 +43,20 @@ same a₁ a₂ b₁ b₂ c₁ c₂ d₁ d₂ e₁ e₂ p q r s t = rw (p, q, r, 
 
 -- one record more
 pub added : (kind x b₂ b₃ b₄ b₅ b₆ b₇ : ℕ) (g : Got) (h : List Entry)
-    → added_to (kept h) kind (given_of g) ≡ kept (record { what = record_of kind x b₂ b₃ b₄ b₅ b₆ b₇; got = g } ∷ h)
+    → added_to (kept h) kind (given_of g) ≡ Some (kept (record { what = record_of kind x b₂ b₃ b₄ b₅ b₆ b₇; got = g } ∷ h))
 unfolding added_to counts_of one_if
 added kind x b₂ b₃ b₄ b₅ b₆ b₇ (transfer t) h =
     let p = calls_of_lem kind x b₂ b₃ b₄ b₅ b₆ b₇ (transfer t) (eqb kind 1) (eqb kind 2) refl refl in
     let q = replies_of_lem kind x b₂ b₃ b₄ b₅ b₆ b₇ (transfer t) (eqb kind 1) (eqb kind 2) refl refl in
-    same _ _ _ _ _ _ _ _ _ _ (omega (arith, p)) (omega arith) (omega (arith, q)) (omega arith) (omega arith)
+    ap Some (same _ _ _ _ _ _ _ _ _ _ (omega (arith, p)) (omega arith) (omega (arith, q)) (omega arith) (omega arith))
 added kind x b₂ b₃ b₄ b₅ b₆ b₇ (answer y n) h =
     let p = calls_of_lem kind x b₂ b₃ b₄ b₅ b₆ b₇ (answer y n) (eqb kind 1) (eqb kind 2) refl refl in
     let q = replies_of_lem kind x b₂ b₃ b₄ b₅ b₆ b₇ (answer y n) (eqb kind 1) (eqb kind 2) refl refl in
-    same _ _ _ _ _ _ _ _ _ _ (omega (arith, p)) (omega arith) (omega (arith, q)) (omega arith) (omega arith)
+    ap Some (same _ _ _ _ _ _ _ _ _ _ (omega (arith, p)) (omega arith) (omega (arith, q)) (omega arith) (omega arith))
 added kind x b₂ b₃ b₄ b₅ b₆ b₇ (refusal y) h =
     let p = calls_of_lem kind x b₂ b₃ b₄ b₅ b₆ b₇ (refusal y) (eqb kind 1) (eqb kind 2) refl refl in
     let q = replies_of_lem kind x b₂ b₃ b₄ b₅ b₆ b₇ (refusal y) (eqb kind 1) (eqb kind 2) refl refl in
-    same _ _ _ _ _ _ _ _ _ _ (omega (arith, p, none (eqb kind 1))) (omega arith) (omega (arith, q, none (eqb kind 2))) (omega arith) (omega arith)
+    ap Some (same _ _ _ _ _ _ _ _ _ _ (omega (arith, p, none (eqb kind 1))) (omega arith) (omega (arith, q, none (eqb kind 2))) (omega arith) (omega arith))
   where
     none : (t : Bool) → ◌≡◌ {A = ℕ} (cond t 0 0) 0
     none true = refl

@@ -1,4 +1,5 @@
+pub mod Chunks
 pub mod Counting
-pub mod ByKind
+pub mod Decoded
 pub mod Turns
 pub mod Meets

@@ -1,22 +1,24 @@
 -- One turn of the run: the first record of what is left is taken, and no count rises by more than one.
 use mathlib.Core.Path.{◌≡◌, refl, sym}
+use Rattle.std.proofs.Common.{Option, Some, None, ◌<◌}
+use Rattle.std.specs.Option.{option_map}
+use Rattle.records.specs.declared.runs.Progress.{Progress}
 use mathlib.Core.Bool.{Bool, true, false, cond}
 use mathlib.Core.List.{List, [], ◌∷◌}
-use Prim.Native.Nat.{ℕ, suc, ◌+◌, ◌-◌, ◌≤◌, zero-le}
+use Prim.Native.Nat.{ℕ, suc, ◌+◌, ◌-◌, ◌≤◌}
 use native.Mathlib.Nat.{add-zero}
 use native.Mathlib.Omega.{arith}
-use native.Mathlib.Numerals.{towards_suc}
+use native.Mathlib.Numerals.{towards_suc, add-one}
 use lib.Dec.{eqb}
-use lib.ListN.{length, get_or, take, drop, drop_of_length-le, length-drop}
+use lib.ListN.{length, get_or, take, drop, length-drop}
 use lib.Seq.{drop-cons, take_all}
 use Rattle.reactions.specs.declared.Given.{Given}
 use Rattle.reactions.specs.Outcome.{outcome_of}
 use Rattle.session.specs.Bus.{byte}
 use Rattle.session.specs.Records.{records_of, step_def}
 use Rattle.records.specs.declared.Counts.{Counts}
-use Rattle.records.specs.declared.runs.Progress.{Progress}
 use Rattle.records.specs.Records.{record_in, record_at}
-use Rattle.records.specs.Runs.{Room, one_if, added_to, advanced, advance, going}
+use Rattle.records.specs.Runs.{Room, one_if, added_to, progress_of, advance, going}
 
 -- eight bytes that were read one by one
 pub eight_at : (l : List ℕ) (i b₀ b₁ b₂ b₃ b₄ b₅ b₆ b₇ : ℕ)
@@ -49,14 +51,6 @@ module _ (l : List ℕ) (i : ℕ) (h : i + 8 ≤ length l) where
 pub tail : (i : ℕ) (l : List ℕ) → take (length l - i) (drop i l) ≡ drop i l
 tail i l = take_all (length l - i) (drop i l) (rw length-drop (omega arith))
 
-pub turn : (p : Progress) (l : List ℕ) (i : ℕ) → i + 8 ≤ length l → going (advance p (record_at l i)) (drop (i + 8) l) ≡ going p (drop i l)
-unfolding going
-turn p l i h = sym (rw (eight_first l i h) refl)
-
-pub no_turn : (p : Progress) (l : List ℕ) (i : ℕ) → length l ≤ i → p ≡ going p (drop i l)
-unfolding going
-no_turn p l i h = sym (rw (drop_of_length-le l h) refl)
-
 -- how far the counts can be
 pub at_most_one : (kind wanted : ℕ) → one_if kind wanted ≤ 1
 unfolding one_if
@@ -76,44 +70,52 @@ room_up c m n e h =
       refused = omega (arith, h.refused);
     }
 
-room_added : (c : Counts) (kind : ℕ) (g : Given) (n : ℕ) → Room c n → Room (added_to c kind g) (n + 8)
+room_added : (c d : Counts) (kind : ℕ) (g : Given) (n : ℕ) → Some d ≡ added_to c kind g → Room c n → Room d (n + 1)
 unfolding added_to
-room_added c kind (Given.Sent t) n h =
-    record {
+room_added c d kind (Given.Sent t) n e h =
+    let f : d ≡ record { calls = c.calls + one_if kind 1; answers = c.answers; replies = c.replies + one_if kind 2; transfers = c.transfers + 1; refused = c.refused } = cc in
+    rw f
+    (record {
       calls = omega (arith, h.calls, at_most_one kind 1);
       answers = omega (arith, h.answers);
       replies = omega (arith, h.replies, at_most_one kind 2);
       transfers = omega (arith, h.transfers);
       refused = omega (arith, h.refused);
-    }
-room_added c kind (Given.Answered x k) n h =
-    record {
+    })
+room_added c d kind (Given.Answered x k) n e h =
+    let f : d ≡ record { calls = c.calls + one_if kind 1; answers = c.answers + 1; replies = c.replies + one_if kind 2; transfers = c.transfers; refused = c.refused } = cc in
+    rw f
+    (record {
       calls = omega (arith, h.calls, at_most_one kind 1);
       answers = omega (arith, h.answers);
       replies = omega (arith, h.replies, at_most_one kind 2);
       transfers = omega (arith, h.transfers);
       refused = omega (arith, h.refused);
-    }
-room_added c kind (Given.Refused x) n h = room_more
-  where
-    room_more : Room (record { calls = c.calls; answers = c.answers; replies = c.replies; transfers = c.transfers; refused = c.refused + 1 }) (n + 8)
-    room_more =
-        record {
-          calls = omega (arith, h.calls);
-          answers = omega (arith, h.answers);
-          replies = omega (arith, h.replies);
-          transfers = omega (arith, h.transfers);
-          refused = omega (arith, h.refused);
-        }
-room_added c kind Given.IllFormed n h = room_up c n (n + 8) (omega arith) h
+    })
+room_added c d kind (Given.Refused x) n e h =
+    let f : d ≡ record { calls = c.calls; answers = c.answers; replies = c.replies; transfers = c.transfers; refused = c.refused + 1 } = cc in
+    rw f
+    (record {
+      calls = omega (arith, h.calls);
+      answers = omega (arith, h.answers);
+      replies = omega (arith, h.replies);
+      transfers = omega (arith, h.transfers);
+      refused = omega (arith, h.refused);
+    })
+room_added c d kind Given.IllFormed n e h = cc
 
-pub room_turn : (p : Progress) (bs : List ℕ) (n : ℕ) → Room p.counts n → Room (advance p bs).counts (n + 8)
-unfolding advance advanced
-room_turn p bs n h = go p.broken
-  where
-    go : (t : Bool) → Room (cond t p (advanced p.counts (byte 0 bs) (outcome_of (step_def p.session (record_in bs))))).counts (n + 8)
-    go true = room_up p.counts n (n + 8) (omega arith) h
-    go false = room_added p.counts (byte 0 bs) (outcome_of (step_def p.session (record_in bs))).given n h
+-- one record more
+module _ (p q : Progress) (bs : List ℕ) (e : Some q ≡ advance p bs) where
+  pub room_turn : (n : ℕ) → Room p.counts n → Room q.counts (n + 1)
+  unfolding advance
+  room_turn n h = at (added_to p.counts (byte 0 bs) (outcome_of (step_def p.session (record_in bs))).given) refl e
+    where
+      at : (x : Option Counts) → added_to p.counts (byte 0 bs) (outcome_of (step_def p.session (record_in bs))).given ≡ x
+          → Some q ≡ option_map (progress_of (outcome_of (step_def p.session (record_in bs))).session) x → Room q.counts (n + 1)
+      at None f e = cc
+      at (Some d) f e =
+          let k : q ≡ progress_of (outcome_of (step_def p.session (record_in bs))).session d = cc in
+          rw k (room_added p.counts d (byte 0 bs) (outcome_of (step_def p.session (record_in bs))).given n (sym f) h)
 
-pub room_none : (n : ℕ) → Room (record { calls = 0; answers = 0; replies = 0; transfers = 0; refused = 0 }) n
-room_none n = record { calls = zero-le; answers = zero-le; replies = zero-le; transfers = zero-le; refused = zero-le }
+  pub turn : (rs : List (List ℕ)) (i : ℕ) → i < length rs → bs ≡ get_or rs i [] → going q (drop (i + 1) rs) ≡ going p (drop i rs)
+  turn rs i h b = rw add-one (sym (rw (drop-cons rs i [] h) (rw (← b) (rw (← e) refl))))

@@ -1,13 +1,15 @@
 -- The list run as the code goes through it, and what it returns. That it is the session's `run_def` is proved.
-use Rattle.std.specs.Prelude.{◌≡◌, Bool, true, false, cond, List, [], ◌∷◌, ℕ, ◌+◌, ◌≤◌, eqb}
+use Rattle.std.specs.Prelude.{◌≡◌, cond, List, [], ◌∷◌, ℕ, ◌+◌, ◌%◌, ◌/◌, ◌≤◌, eqb, length, Option, Some, None, Result, Ok, Err}
+use Rattle.std.specs.Option.{option_map, option_and_then, ok_or}
+use Rattle.std.specs.Simd.{first_chunks}
 use Rattle.session.specs.declared.Session.{Session}
 use Rattle.session.specs.declared.Answer.{Answer}
 use Rattle.session.specs.Bus.{byte}
+use Rattle.session.specs.Machine.{ill_formed}
 use Rattle.session.specs.Records.{step_def}
 use Rattle.session.specs.History.{Counts as CountsOf, Run}
 use Rattle.session.specs.Claim3.{Demand3}
 use Rattle.reactions.specs.declared.Given.{Given}
-use Rattle.reactions.specs.declared.Outcome.{Outcome}
 use Rattle.reactions.specs.Outcome.{outcome_of}
 use Rattle.records.specs.declared.Counts.{Counts}
 use Rattle.records.specs.declared.ListRun.{ListRun}
@@ -41,63 +43,53 @@ no_counts = record { calls = 0; answers = 0; replies = 0; transfers = 0; refused
 unfoldable pub one_if : ℕ → ℕ → ℕ
 one_if kind wanted = cond (eqb kind wanted) 1 0
 
--- the counts after a record of a kind
-unfoldable pub added_to : Counts → ℕ → Given → Counts
+-- the counts after a record of a kind; none where the session was ill-formed
+unfoldable pub added_to : Counts → ℕ → Given → Option Counts
 added_to c kind (Given.Sent t) =
-    record {
+    Some (record {
       calls = c.calls + one_if kind 1;
       answers = c.answers;
       replies = c.replies + one_if kind 2;
       transfers = c.transfers + 1;
       refused = c.refused;
-    }
+    })
 added_to c kind (Given.Answered x n) =
-    record {
+    Some (record {
       calls = c.calls + one_if kind 1;
       answers = c.answers + 1;
       replies = c.replies + one_if kind 2;
       transfers = c.transfers;
       refused = c.refused;
-    }
+    })
 added_to c kind (Given.Refused x) =
-    record { calls = c.calls; answers = c.answers; replies = c.replies; transfers = c.transfers; refused = c.refused + 1 }
-added_to c kind Given.IllFormed = c
+    Some (record { calls = c.calls; answers = c.answers; replies = c.replies; transfers = c.transfers; refused = c.refused + 1 })
+added_to c kind Given.IllFormed = None
 
-unfoldable pub is_ill_formed : Given → Bool
-is_ill_formed (Given.Sent t) = false
-is_ill_formed (Given.Answered x n) = false
-is_ill_formed (Given.Refused x) = false
-is_ill_formed Given.IllFormed = true
-
-abbrev pub progress_of : Session → Counts → Bool → Progress
-progress_of s c broken = record { session = s; counts = c; broken = broken }
-
-unfoldable pub advanced : Counts → ℕ → Outcome → Progress
-advanced c kind o = progress_of o.session (added_to c kind o.given) (is_ill_formed o.given)
+abbrev pub progress_of : Session → Counts → Progress
+progress_of s c = record { session = s; counts = c }
 
 -- one record, as eight bytes
-unfoldable pub advance : Progress → List ℕ → Progress
-advance p bs = cond p.broken p (advanced p.counts (byte 0 bs) (outcome_of (step_def p.session (record_in bs))))
+unfoldable pub advance : Progress → List ℕ → Option Progress
+advance p bs =
+    let o = outcome_of (step_def p.session (record_in bs)) in
+    option_map (progress_of o.session) (added_to p.counts (byte 0 bs) o.given)
 
 abbrev pub starting : Session → Progress
-starting s = progress_of s no_counts false
+starting s = progress_of s no_counts
 
--- the whole records of a list, one after the other
-unfoldable pub going : Progress → List ℕ → Progress
-going p [] = p
-going p (a ∷ []) = p
-going p (a ∷ b ∷ []) = p
-going p (a ∷ b ∷ c ∷ []) = p
-going p (a ∷ b ∷ c ∷ d ∷ []) = p
-going p (a ∷ b ∷ c ∷ d ∷ e ∷ []) = p
-going p (a ∷ b ∷ c ∷ d ∷ e ∷ f ∷ []) = p
-going p (a ∷ b ∷ c ∷ d ∷ e ∷ f ∷ g ∷ []) = p
-going p (a ∷ b ∷ c ∷ d ∷ e ∷ f ∷ g ∷ h ∷ l) = going (advance p (a ∷ b ∷ c ∷ d ∷ e ∷ f ∷ g ∷ h ∷ [])) l
+-- records one after the other
+abbrev pub going : Progress → List (List ℕ) → Option Progress
+going p [] = Some p
+going p (r ∷ rs) = option_and_then (λ q. going q rs) (advance p r)
 
--- 01: "14 and 15 end the list run with the session as given and all counts 0"
-unfoldable pub stopped_run : Answer → Session → ListRun
-stopped_run x given = record { answer = x; session = given; counts = no_counts }
+-- 14 and 15, or where a run ends
+unfoldable pub gone : Session → List ℕ → Result Progress Answer
+gone s l =
+    cond (eqb (length l % 8) 0)
+    (cond (ill_formed s) (Err Answer.IllFormedSession) (ok_or (going (starting s) (first_chunks 8 (length l / 8) l)) Answer.IllFormedSession))
+    (Err Answer.SpareBytes)
 
-unfoldable pub finished : Progress → Session → ListRun
-finished p given =
-    cond p.broken (stopped_run Answer.IllFormedSession given) (record { answer = Answer.Done 0; session = p.session; counts = p.counts })
+-- what a run gives. 01: "14 and 15 end the list run with the session as given and all counts 0"
+unfoldable pub finished : Result Progress Answer → Session → ListRun
+finished (Ok p) given = record { answer = Answer.Done 0; session = p.session; counts = p.counts }
+finished (Err x) given = record { answer = x; session = given; counts = no_counts }

@@ -4,9 +4,17 @@
 mod one;
 mod runs;
 
-pub use one::{long, record_at, step};
+pub use one::{record_at, step};
 pub use runs::{run, run_fresh};
-use session::{Answer, Session};
+use session::{Answer, CallRecord, ReplyRecord, Session};
+
+// What eight bytes are.
+#[derive(Clone, Copy)]
+pub enum Record {
+    Call(CallRecord),
+    Reply(ReplyRecord),
+    Other,
+}
 
 // What the records of a list came to: accepted calls, the answers these got, accepted replies, transfers, refusals.
 #[derive(Clone, Copy)]

@@ -1,22 +1,29 @@
 // The list run.
-ghost use Rattle.std.specs.Prelude.{◌≡◌, ◌%◌, ◌^◌, length};
-ghost use Rattle.session.specs.Machine.{ill_formed};
+ghost use Rattle.std.specs.Prelude.{◌≡◌, ◌<◌, ◌^◌, length};
 ghost use Rattle.session.specs.History.{run_def};
-ghost use Rattle.records.specs.Runs.{Room, one_if, added_to, is_ill_formed, no_counts, progress_of, advanced, advance, starting, going, finished, stopped_run, list_run_of, RunsFresh};
+ghost use Rattle.records.specs.Runs.{Room, one_if, added_to, advance, starting, going, gone, list_run_of, RunsFresh};
 
-use crate::one::{record_at, step};
+use crate::one::step;
 use crate::{Counts, ListRun};
-use reactions::{Given, Outcome};
+use reactions::Given;
 use session::{Answer, Session};
 
-// Where a run is: the session, the counts so far, and whether a session was ill-formed.
+// Where a run is: the session, and the counts so far.
 #[derive(Clone, Copy)]
 struct Progress {
     session: Session,
     counts: Counts,
-    broken: bool,
 }
 
+const NO_COUNTS: Counts = Counts {
+    calls: 0,
+    answers: 0,
+    replies: 0,
+    transfers: 0,
+    refused: 0,
+};
+
+#[tactic(auto, unfolding(crate::specs::Runs::one_if))]
 fn one_if(kind: u8, wanted: u8) -> u64
     ensures { result ≡ one_if kind wanted }
 {
@@ -24,153 +31,73 @@ fn one_if(kind: u8, wanted: u8) -> u64
 }
 
 // The counts after a record of a kind.
-#[tactic(auto, unfolding(crate::specs::Runs::added_to))]
-fn added_to(counts: Counts, kind: u8, given: Given) -> Counts
+#[tactic(auto, using(crate::proofs::Turns::at_most_one), unfolding(crate::specs::Runs::added_to))]
+fn added_to(counts: Counts, kind: u8, given: Given) -> Option<Counts>
     requires { Room counts (2 ^ 63) }
     ensures { result ≡ added_to counts kind given }
 {
-    let call = one_if(kind, 1);
-    let reply = one_if(kind, 2);
     match given {
-        Given::Sent(_) => Counts {
-            calls: counts.calls + call,
-            answers: counts.answers,
-            replies: counts.replies + reply,
+        Given::Sent(_) => Some(Counts {
+            calls: counts.calls + one_if(kind, 1),
+            replies: counts.replies + one_if(kind, 2),
             transfers: counts.transfers + 1,
-            refused: counts.refused,
-        },
-        Given::Answered(_, _) => Counts {
-            calls: counts.calls + call,
+            ..counts
+        }),
+        Given::Answered(_, _) => Some(Counts {
+            calls: counts.calls + one_if(kind, 1),
             answers: counts.answers + 1,
-            replies: counts.replies + reply,
-            transfers: counts.transfers,
-            refused: counts.refused,
-        },
-        Given::Refused(_) => Counts {
-            calls: counts.calls,
-            answers: counts.answers,
-            replies: counts.replies,
-            transfers: counts.transfers,
+            replies: counts.replies + one_if(kind, 2),
+            ..counts
+        }),
+        Given::Refused(_) => Some(Counts {
             refused: counts.refused + 1,
-        },
-        Given::IllFormed => counts,
+            ..counts
+        }),
+        Given::IllFormed => None,
     }
 }
 
-#[tactic(auto, unfolding(crate::specs::Runs::is_ill_formed))]
-fn is_ill_formed(given: Given) -> bool
-    ensures { result ≡ is_ill_formed given }
-{
-    match given {
-        Given::Sent(_) => false,
-        Given::Answered(_, _) => false,
-        Given::Refused(_) => false,
-        Given::IllFormed => true,
-    }
-}
-
-fn standing(session: Session, counts: Counts, broken: bool) -> Progress
-    ensures { result ≡ progress_of session counts broken }
-{
-    Progress {
-        session,
-        counts,
-        broken,
-    }
-}
-
-fn advanced(counts: Counts, kind: u8, o: Outcome) -> Progress
-    requires { Room counts (2 ^ 63) }
-    ensures { result ≡ advanced counts kind o }
-{
-    let given = o.given;
-    let session = o.session;
-    standing(session, added_to(counts, kind, given), is_ill_formed(given))
-}
-
-// One record more; where a session was ill-formed nothing more is done.
-fn advance(p: Progress, record: [u8; 8]) -> Progress
+// One record more; a session that was ill-formed ends the run.
+#[tactic(auto, unfolding(crate::specs::Runs::advance))]
+fn advance(p: Progress, record: [u8; 8]) -> Option<Progress>
     requires { Room p.counts (2 ^ 63) }
     ensures { result ≡ advance p «record» }
 {
-    if p.broken {
-        p
-    } else {
-        let session = p.session;
-        let counts = p.counts;
-        advanced(counts, record[0], step(session, record))
-    }
+    let o = step(p.session, record);
+    let counts = added_to(p.counts, record[0], o.given)?;
+    Some(Progress {
+        session: o.session,
+        counts,
+    })
 }
 
-fn no_counts() -> Counts
-    ensures { result ≡ no_counts }
+fn go(s: Session, records: &[[u8; 8]]) -> Option<Progress>
+    requires { length records.now < 2 ^ 63 }
+    ensures { result ≡ going (starting s) records.now }
 {
-    Counts {
-        calls: 0,
-        answers: 0,
-        replies: 0,
-        transfers: 0,
-        refused: 0,
+    let mut p = Progress {
+        session: s,
+        counts: NO_COUNTS,
+    };
+    for r in records {
+        p = advance(p, *r)?;
     }
-}
-
-fn starting(s: Session) -> Progress
-    ensures { result ≡ starting s }
-{
-    standing(s, no_counts(), false)
-}
-
-fn go(s: Session, bytes: &[u8]) -> Progress
-    requires { length bytes.now % 8 ≡ 0 }
-    ensures { result ≡ going (starting s) bytes.now }
-{
-    let mut p = starting(s);
-    let mut i: usize = 0;
-    while i < bytes.len() {
-        p = advance(p, record_at(bytes, i));
-        i += 8;
-    }
-    p
+    Some(p)
 }
 
 // Answers 14 and 15 give back the session as it was given, with all counts 0.
-fn stopped(answer: Answer, given: Session) -> ListRun
-    ensures { result ≡ stopped_run answer given }
+#[tactic(auto, unfolding(crate::specs::Runs::gone))]
+fn gone(s: Session, bytes: &[u8]) -> Result<Progress, Answer>
+    ensures { result ≡ gone s bytes.now }
 {
-    let counts = no_counts();
-    ListRun {
-        answer,
-        session: given,
-        counts,
+    let (records, spare) = bytes.as_chunks::<8>();
+    if !spare.is_empty() {
+        return Err(Answer::SpareBytes);
     }
-}
-
-fn finished(p: Progress, given: Session) -> ListRun
-    ensures { result ≡ finished p given }
-{
-    if p.broken {
-        stopped(Answer::IllFormedSession, given)
-    } else {
-        let session = p.session;
-        let counts = p.counts;
-        ListRun {
-            answer: Answer::Done(0),
-            session,
-            counts,
-        }
+    if checks::ill_formed(s) {
+        return Err(Answer::IllFormedSession);
     }
-}
-
-fn run_whole(ill: bool, s: Session, bytes: &[u8]) -> ListRun
-    requires bytes_len { length bytes.now % 8 ≡ 0 }
-    requires ill_value { ill ≡ ill_formed s }
-    ensures { result ≡ list_run_of (run_def s bytes.now) }
-{
-    if ill {
-        stopped(Answer::IllFormedSession, s)
-    } else {
-        finished(go(s, bytes), s)
-    }
+    go(s, records).ok_or(Answer::IllFormedSession)
 }
 
 // The run of a list of records from any session.
@@ -178,10 +105,17 @@ pub fn run(s: Session, bytes: &[u8]) -> ListRun
     ensures value { result ≡ list_run_of (run_def s bytes.now) }
     ensures bytes_kept { bytes.exit.now ≡ bytes.entry.now }
 {
-    if bytes.len() % 8 == 0 {
-        run_whole(checks::ill_formed(s), s, bytes)
-    } else {
-        stopped(Answer::SpareBytes, s)
+    match gone(s, bytes) {
+        Ok(p) => ListRun {
+            answer: Answer::Done(0),
+            session: p.session,
+            counts: p.counts,
+        },
+        Err(answer) => ListRun {
+            answer,
+            session: s,
+            counts: NO_COUNTS,
+        },
     }
 }
 

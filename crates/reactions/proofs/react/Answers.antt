@@ -5,18 +5,21 @@ use Rattle.reactions.specs.Reactions.{reached}
 use Rattle.reactions.proofs.Meets.{reacts, same_kept, sound_same}
 use Rattle.reactions.proofs.react.Goals as goal
 
-pub returns : goal.returns
-unfolding reached
-returns c =
-    let a = c.args in
-    let h = c.requires in
-    let k = c.kept_by-t.ensures in
-    let e = same_kept a.x.kind a.x a.s a.failure a.bytes in
+pub invariant_of-result : goal.invariant_of-result
+invariant_of-result c =
+    let s = c.args.s in
+    let k = c.kept_by-session.ensures in
+    let e = same_kept c.args.shape.kind c.args.shape s.session c.args.reply.failure c.args.reply.data in
     record {
       fit =
           record {
-            sound = λ _. rw k (sound_same a.s _ h.sound e);
-            fits = rw k (rw e.a h.fits);
+            sound = λ _. rw k (sound_same s.session _ s.ready.sound e);
+            fits = rw k (rw e.a s.ready.fits);
           };
-      result = rw (c.way_after-way.ensures, k, h.shape) (reacts a.i (op_of a.i) a.s a.failure a.bytes refl);
     }
+
+pub returns : goal.returns
+unfolding reached
+returns c =
+    let s = c.args.s in
+    rw (c.way_after-way.ensures, c.kept_by-session.ensures, c.requires) (reacts s.at (op_of s.at) s.session c.args.reply.failure c.args.reply.data refl)

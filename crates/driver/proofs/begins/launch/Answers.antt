@@ -12,14 +12,13 @@ use Rattle.driver.proofs.begins.launch.Goals as goal
 
 pub entry-requires : goal.entry-requires
 entry-requires c =
-    let s = c.args.s in
-    subst (λ (x : Call). s.a ≤ most_for x) (sym c.call_of.ensures) (stored_fits s.code s.a s.b c.requires.arguments)
+    let s = c.args.s.session in
+    subst (λ (x : Call). s.a ≤ most_for x) (sym c.call_of.ensures) (stored_fits s.code s.a s.b c.args.s.ready.sound.arguments)
+
+pub invariant_of-result : goal.invariant_of-result
+unfolding most_at
+invariant_of-result c = record { fit = record { sound = λ _. c.args.s.ready.sound; fits = omega arith } }
 
 pub returns : goal.returns
-unfolding most_at reached
-returns c =
-    let s = c.args.s in
-    record {
-      fit = record { sound = λ _. c.requires; fits = omega arith };
-      result = rw (c.way_of-way.ensures, c.entry.ensures, c.call_of.ensures) (launches s);
-    }
+unfolding reached
+returns c = rw (c.way_of-way.ensures, c.entry.ensures, c.call_of.ensures) (launches c.args.s.session)

@@ -10,10 +10,10 @@ use Rattle.reactions.proofs.outcomes.conclude.Goals as goal
 
 pub final_of-requires : goal.final_of-requires
 final_of-requires c =
-    let s = c.args.s in
-    subst (λ (x : Call). s.a ≤ most_for x) (sym c.call_of.ensures) (stored_fits s.code s.a s.b c.requires.arguments)
+    let s = c.args.s.session in
+    subst (λ (x : Call). s.a ≤ most_for x) (sym c.call_of.ensures) (stored_fits s.code s.a s.b c.args.s.ready.sound.arguments)
 
 pub returns : goal.returns
 returns c =
-    let s = c.args.s in
+    let s = c.args.s.session in
     (rw (c.final_of.ensures, c.call_of.ensures) at c.end.ensures) ∙ ap outcome_of (ends s)

@@ -1,9 +1,12 @@
 -- `records::one::step` meets its contract.
-use Rattle.reactions.proofs.Meets.{gone}
+use mathlib.Core.Path.{◌∙◌, ap}
+use Rattle.session.specs.Records.{step_def}
+use Rattle.reactions.specs.Outcome.{outcome_of}
+use Rattle.records.specs.Records.{record_in}
+use Rattle.records.proofs.Decoded.{meant_shown}
 use Rattle.records.proofs.one.step.Goals as goal
 
-pub go-requires : goal.go-requires
-go-requires c = c.course_of.ensures.fit
-
 pub returns : goal.returns
-returns c = gone c.course_of.ensures c.go.ensures
+returns c =
+    c.go.ensures
+    ∙ ap outcome_of ((rw c.from.ensures at c.course_of.ensures) ∙ ap (step_def c.args.s) (meant_shown (record_in c.args.«record»)))

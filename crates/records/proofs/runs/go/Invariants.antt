@@ -1,11 +1,7 @@
 use mathlib.Core.Path.{◌≡◌}
-use Prim.Native.Nat.{◌-◌, ◌%◌, ◌≤◌}
-use lib.ListN.{length, drop}
+use lib.ListN.{drop}
 use Rattle.records.specs.Runs.{Room, going}
 use Rattle.records.proofs.runs.go.Given as goal
 
-abbrev pub invariant-loop-i : goal.invariant-loop-i
-invariant-loop-i l = (l.i ≤ length l.bytes) × (length l.bytes % 8 ≡ 0) × (l.i % 8 ≡ 0) × Room l.p.counts l.i × (going l.p (drop l.i l.bytes) ≡ going l.initial.p l.bytes)
-
-abbrev pub decreases-loop-i : goal.decreases-loop-i
-decreases-loop-i l = length l.bytes - l.i
+abbrev pub invariant-loop-r : goal.invariant-loop-r
+invariant-loop-r l = record { room : Room l.p.counts l.r-index; rest : going l.p (drop l.r-index l.records) ≡ going l.initial.p l.records }

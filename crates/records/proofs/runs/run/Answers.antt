@@ -1,13 +1,20 @@
 -- `records::runs::run` meets its contract.
-use mathlib.Core.Path.{refl, ◌∙◌}
-use borrow.Author.Rules.{rules}
-use Rattle.records.specs.Runs.{list_run_of}
-use Rattle.records.proofs.Meets.{runs_spare}
+use mathlib.Core.Path.{ap, ◌∙◌}
+use Rattle.std.proofs.Common.{Result}
+use Rattle.session.specs.declared.Answer.{Answer}
+use Rattle.records.specs.declared.runs.Progress.{Progress}
+use Rattle.records.specs.Runs.{finished}
+use Rattle.records.proofs.Meets.{runs}
 use Rattle.records.proofs.runs.run.Goals as goal
 
-pub returns-then-bytes-eq0 : goal.returns-then-bytes-eq0
-unfolding list_run_of
-returns-then-bytes-eq0 c = search rules
+pub returns-in-Ok-clause-value : goal.returns-in-Ok-clause-value
+unfolding finished
+returns-in-Ok-clause-value c =
+    let a = c.args in
+    ap (λ (r : Result Progress Answer). finished r a.s) c.in-Ok.ensures ∙ runs a.s a.bytes.now
 
-pub returns-else-bytes-eq0 : goal.returns-else-bytes-eq0
-returns-else-bytes-eq0 c = record { value = c.stopped.ensures ∙ runs_spare c.args.s c.args.bytes.now c.if-bytes-eq0.false; bytes_kept = refl }
+pub returns-in-Err-clause-value : goal.returns-in-Err-clause-value
+unfolding finished
+returns-in-Err-clause-value c =
+    let a = c.args in
+    ap (λ (r : Result Progress Answer). finished r a.s) c.in-Err.ensures ∙ runs a.s a.bytes.now

@@ -1,9 +1,0 @@
--- `checks::up_wrong` meets its contract.
-use Rattle.clock.proofs.Branches.{branches}
-use Rattle.checks.proofs.up_wrong.Goals as goal
-
-pub returns-then-code-eq1 : goal.returns-then-code-eq1
-returns-then-code-eq1 c = search branches
-
-pub returns-else-code-eq1 : goal.returns-else-code-eq1
-returns-else-code-eq1 c = search branches
