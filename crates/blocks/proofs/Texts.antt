@@ -1,15 +1,14 @@
 -- A line more of a text, and a list run to its end.
 use mathlib.Core.Path.{◌≡◌, refl, sym, ap, ◌∙◌}
 use mathlib.Core.List.{List, [], ◌∷◌, ◌++◌, append_assoc, append-nil}
-use Prim.Native.Nat.{ℕ, zero, suc, ◌+◌, ◌*◌, ◌/◌, ◌≤◌, ◌<◌, zero-le}
+use Prim.Native.Nat.{ℕ, ◌+◌, ◌*◌, ◌≤◌, ◌<◌, zero-le}
 use native.Mathlib.Numerals.{add-one}
 use native.Mathlib.Omega.{arith}
 use lib.ListN.{length, get_or, take, drop, length-drop, length-append, take-append-drop, drop_of_length-le}
 use lib.Seq.{sets-eq, length-take-le, take_at, drop_at, drop-drop, drop-cons}
 use Rattle.std.specs.Prelude.{map}
-use Rattle.std.specs.Simd.{first_chunks}
 use Rattle.session.specs.declared.Session.{Session}
-use Rattle.session.specs.Records.{Record, records_of, step_def}
+use Rattle.session.specs.Records.{records_of, step_def}
 use Rattle.session.specs.Machine.{Outcome as Result, sent, answered, refused, broken}
 use Rattle.session.specs.History.{session_of}
 use Rattle.reactions.specs.Outcome.{outcome_of}
@@ -25,29 +24,6 @@ kept_session (sent t s) = refl
 kept_session (answered y n s) = refl
 kept_session (refused y s) = refl
 kept_session (broken s) = refl
-
--- the records of a list are its chunks of eight bytes
-pub chunked : (k : ℕ) (l : List ℕ) → length l / 8 ≡ k → records_of l ≡ map record_in (first_chunks 8 k l)
-unfolding records_of record_in
-chunked zero [] h = refl
-chunked zero (a₀ ∷ []) h = refl
-chunked zero (a₀ ∷ a₁ ∷ []) h = refl
-chunked zero (a₀ ∷ a₁ ∷ a₂ ∷ []) h = refl
-chunked zero (a₀ ∷ a₁ ∷ a₂ ∷ a₃ ∷ []) h = refl
-chunked zero (a₀ ∷ a₁ ∷ a₂ ∷ a₃ ∷ a₄ ∷ []) h = refl
-chunked zero (a₀ ∷ a₁ ∷ a₂ ∷ a₃ ∷ a₄ ∷ a₅ ∷ []) h = refl
-chunked zero (a₀ ∷ a₁ ∷ a₂ ∷ a₃ ∷ a₄ ∷ a₅ ∷ a₆ ∷ []) h = refl
-chunked zero (a₀ ∷ a₁ ∷ a₂ ∷ a₃ ∷ a₄ ∷ a₅ ∷ a₆ ∷ a₇ ∷ l) h = absurd (omega (arith, h))
-chunked (suc k) [] h = absurd (omega (arith, h))
-chunked (suc k) (a₀ ∷ []) h = absurd (omega (arith, h))
-chunked (suc k) (a₀ ∷ a₁ ∷ []) h = absurd (omega (arith, h))
-chunked (suc k) (a₀ ∷ a₁ ∷ a₂ ∷ []) h = absurd (omega (arith, h))
-chunked (suc k) (a₀ ∷ a₁ ∷ a₂ ∷ a₃ ∷ []) h = absurd (omega (arith, h))
-chunked (suc k) (a₀ ∷ a₁ ∷ a₂ ∷ a₃ ∷ a₄ ∷ []) h = absurd (omega (arith, h))
-chunked (suc k) (a₀ ∷ a₁ ∷ a₂ ∷ a₃ ∷ a₄ ∷ a₅ ∷ []) h = absurd (omega (arith, h))
-chunked (suc k) (a₀ ∷ a₁ ∷ a₂ ∷ a₃ ∷ a₄ ∷ a₅ ∷ a₆ ∷ []) h = absurd (omega (arith, h))
-chunked (suc k) (a₀ ∷ a₁ ∷ a₂ ∷ a₃ ∷ a₄ ∷ a₅ ∷ a₆ ∷ a₇ ∷ l) h =
-    ap (λ (rs : List Record). record_in (a₀ ∷ a₁ ∷ a₂ ∷ a₃ ∷ a₄ ∷ a₅ ∷ a₆ ∷ a₇ ∷ []) ∷ rs) (chunked k l (omega (arith, h)))
 
 module _ (line_of : Outcome → List ℕ) (s₀ : Session) (chunks : List (List ℕ)) (out₀ : List ℕ) where
   -- where the printing of a list of chunks is
