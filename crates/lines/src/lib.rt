@@ -4,10 +4,11 @@
 
 mod cursor;
 
-ghost use Rattle.std.specs.Prelude.{◌≡◌, ◌+◌, ◌≤◌, length};
+ghost use Rattle.std.specs.Prelude.{◌≡◌, ◌+◌, ◌≤◌};
 ghost use Rattle.session.specs.Bus.{number_of};
 ghost use Rattle.lines.specs.Lines.{transfer_line, answer_line, given_line, fields_line, outcome_line, flag, value_of};
-ghost use Rattle.lines.specs.Put.{Put, PutLine};
+ghost use Rattle.lines.specs.Cursor.{HasRoom, Puts};
+ghost use Rattle.lines.specs.Put.{PutLine};
 
 use crate::cursor::Cursor;
 use checks::has_room;
@@ -58,9 +59,8 @@ fn flag_of(up: bool) -> u8
 
 impl<'a> Cursor<'a> {
     fn transfer(&mut self, t: Transfer)
-        requires { self.old.at + 32 ≤ length self.old.text.now }
-        ensures same_text { self.new.text.ghost_name ≡ self.old.text.ghost_name }
-        ensures put { Put self.old.text.now self.old.at (transfer_line t) self.new.text.now self.new.at }
+        requires { HasRoom self.old 32 }
+        ensures puts { Puts self.old (transfer_line t) self.new }
         ensures upper_bound { self.new.at ≤ self.old.at + 32 }
     {
         self.byte(b'T');
@@ -73,9 +73,8 @@ impl<'a> Cursor<'a> {
     }
 
     fn answer(&mut self, number: u8, value: u32, transfers: u32)
-        requires { self.old.at + 32 ≤ length self.old.text.now }
-        ensures same_text { self.new.text.ghost_name ≡ self.old.text.ghost_name }
-        ensures put { Put self.old.text.now self.old.at (answer_line number value transfers) self.new.text.now self.new.at }
+        requires { HasRoom self.old 32 }
+        ensures puts { Puts self.old (answer_line number value transfers) self.new }
         ensures upper_bound { self.new.at ≤ self.old.at + 32 }
     {
         self.byte(b'A');
@@ -87,9 +86,8 @@ impl<'a> Cursor<'a> {
 
     #[tactic(auto, unfolding(crate::specs::Lines::given_line))]
     fn given(&mut self, given: Given)
-        requires { self.old.at + 32 ≤ length self.old.text.now }
-        ensures same_text { self.new.text.ghost_name ≡ self.old.text.ghost_name }
-        ensures put { Put self.old.text.now self.old.at (given_line given) self.new.text.now self.new.at }
+        requires { HasRoom self.old 32 }
+        ensures puts { Puts self.old (given_line given) self.new }
         ensures upper_bound { self.new.at ≤ self.old.at + 32 }
     {
         match given {
@@ -101,9 +99,8 @@ impl<'a> Cursor<'a> {
     }
 
     fn fields(&mut self, d: Driver)
-        requires { self.old.at + 32 ≤ length self.old.text.now }
-        ensures same_text { self.new.text.ghost_name ≡ self.old.text.ghost_name }
-        ensures put { Put self.old.text.now self.old.at (fields_line d) self.new.text.now self.new.at }
+        requires { HasRoom self.old 32 }
+        ensures puts { Puts self.old (fields_line d) self.new }
         ensures upper_bound { self.new.at ≤ self.old.at + 32 }
     {
         self.byte(b'F');
