@@ -1,5 +1,6 @@
 // The lines of text that outcomes and the driver's fields are printed as. A line goes into a lent text from a place on, and the place after it is
 // returned. Where the text has less than 32 bytes from that place on, nothing is put: no line has more.
+// There is no `Display`: std's clauses do not say which bytes a lent slice has after a `write!`.
 #![tactic(auto)]
 
 mod cursor;
@@ -112,7 +113,7 @@ impl<'a> Cursor<'a> {
     }
 }
 
-// What a record gave.
+// What a record gave. This line and the next test for room each: a cursor from one test would be lent by an `Option`, in a longer contract.
 pub fn outcome_line(text: &mut [u8], at: usize, o: Outcome) -> usize
     ensures { PutLine text.old at (outcome_line o) text.new result }
 {
