@@ -80,11 +80,11 @@ fn doubled(x: u16, times: u16) -> u16
 pub fn decode_timeout(register_value: u16) -> Result<Mclks, Place>
     ensures { result ≡ decoded_timeout register_value }
 {
-    let times = register_value / 256;
+    let [times, low] = register_value.to_be_bytes();
     if 16 <= times {
         Err(Place::TimeoutShift)
     } else {
-        Ok(Mclks(doubled(register_value % 256, times) + 1))
+        Ok(Mclks(doubled(low as u16, times as u16) + 1))
     }
 }
 

@@ -66,7 +66,7 @@ fn print_blocks<S: Show>(
     Ok(())
 }
 
-// A block is a quarter of the text, so that the lines of its records fit.
+// A block is a quarter of the text, so that the lines of its records fit. Arrays of one size, since memory is fixed.
 pub fn run<S: Show>(rt: &(impl Input + Print)) -> io::Result<()> {
     let mut block = [0u8; 16384];
     let mut text = [0u8; 65536];

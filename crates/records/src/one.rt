@@ -42,7 +42,7 @@ fn byte_after(bytes: &[u8], at: usize, k: usize) -> u8
         .unwrap_or(0)
 }
 
-// Eight bytes of a list.
+// Eight bytes of a list, from a place on as a reader has it.
 pub fn record_at(bytes: &[u8], at: usize) -> [u8; 8]
     ensures { result ≡ record_at bytes.now at }
 {

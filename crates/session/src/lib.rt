@@ -27,6 +27,7 @@ pub struct Driver {
 // instructions, `idle` the idle reads of the wait it stands at, `transfers` those made so far.
 // `failed` is the failure code of its range read, `own` the budget that its first six budget reads
 // gave, `carried` the reply bytes that it has kept, raw.
+// The carried bytes are 24 because memory is fixed, and each call has slots of its own among them.
 // `code` and `failed` are numbers, where 0 says that there is none, since callers in C hand in any: answer 15 judges them, and not a type.
 #[derive(Clone, Copy)]
 pub struct Session {

@@ -85,7 +85,7 @@ fn write_threshold(address: u8, register: u8, mm: u16) -> Transfer
 
 const FUNCTIONS: [u8; 4] = [0x04, 0x01, 0x02, 0x03];
 
-// What the interrupt pin shows: disabled is written as 4.
+// What the interrupt pin shows: disabled is written as 4. It and the polarity are numbers, since a waiting session may hold any.
 fn function_byte(functionality: u32) -> u8
     ensures { result ≡ get_or (0x04 ∷ 0x01 ∷ 0x02 ∷ 0x03 ∷ []) functionality 0 }
 {

@@ -9,6 +9,8 @@ ghost use Rattle.vl53l0x.specs.Exports.{step_outcome, step_session, fresh_number
 use reactions::Given;
 use session::Answer;
 
+// What C lends has any length, so that each function tests it, and says so by a number of its own.
+
 // A fresh session. Returned is 0, or 15 where there are not 52 bytes.
 #[unsafe(no_mangle)]
 pub extern "C" fn vl53l0x_fresh(session: &mut [u8]) -> u8
