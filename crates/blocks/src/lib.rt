@@ -55,6 +55,7 @@ pub struct Printout {
 }
 
 // One record more: its line goes into the text.
+#[tactic(auto, using(crate::proofs::Texts::kept_session))]
 fn print_record<S: Show>(p: Printout, record: [u8; 8], out: &mut [u8]) -> Printout
     requires { p.count + 32 ≤ length out.old }
     ensures { OneMore S.line_of p «record» out.old out.new result }
@@ -83,6 +84,7 @@ fn print_records<S: Show>(s: Session, bytes: &[u8], out: &mut [u8]) -> Printout
 
 // The lines of the whole records of a block go to the start of the text. Where that has less than four bytes for each byte of the
 // block, nothing is done.
+#[tactic(auto, using(crate::proofs::Texts::printed_fits))]
 pub fn print<S: Show>(s: Session, bytes: &[u8], out: &mut [u8]) -> Printout
     ensures { Prints S.line_of s bytes.now out.old out.new result }
 {

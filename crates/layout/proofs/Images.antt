@@ -1,10 +1,11 @@
 -- The bytes of a number, and bytes that are a session.
 use mathlib.Core.Path.{◌≡◌, refl}
 use mathlib.Core.Bool.{Bool, true, false}
-use mathlib.Core.List.{List}
+use mathlib.Core.List.{List, [], ◌++◌, append-nil}
 use Prim.Native.Nat.{ℕ, ◌/◌, ◌%◌, ◌<◌}
 use native.Mathlib.Omega.{arith}
-use lib.ListN.{length}
+use lib.ListN.{length, take, drop, length-drop}
+use lib.Seq.{take_all}
 use lib.Dec.{eqb}
 use borrow.Author.Tests.{eqb-true}
 use Rattle.session.proofs.Facts.{both}
@@ -33,3 +34,10 @@ fifty_two l e = eqb-true (length l) 52 (both (eqb (length l) 52) _ e).0
 pub as_number : (t : Bool) → bool_byte t ≡ flag t
 as_number true = refl
 as_number false = refl
+
+-- the last 24 of 52 bytes
+pub last_24 : (l : List ℕ) → length l ≡ 52 → take 24 (drop 28 l) ≡ drop 28 l
+last_24 l e = take_all 24 (drop 28 l) (rw length-drop (omega (arith, e)))
+
+pub whole : (l : List ℕ) → l ++ [] ≡ l
+whole l = append-nil l

@@ -11,7 +11,7 @@ fn long_at(bytes: &[u8; 52], at: usize) -> u32
     u32::from_le_bytes([bytes[at], bytes[at + 1], bytes[at + 2], bytes[at + 3]])
 }
 
-#[tactic(auto, unfolding(crate::specs::Layout::session_of))]
+#[tactic(auto, using(crate::proofs::Images::last_24), unfolding(crate::specs::Layout::session_of))]
 fn read(bytes: &[u8; 52]) -> Session
     ensures { result ≡ session_of bytes.now }
 {
@@ -62,7 +62,7 @@ pub fn session_in(lent: &[u8]) -> Session
     session_of(lent).unwrap_or(driver::fresh())
 }
 
-#[tactic(auto, using(crate::proofs::Images::long_image, crate::proofs::Images::word_image), unfolding(crate::specs::Layout::session_bytes))]
+#[tactic(auto, using(crate::proofs::Images::long_image, crate::proofs::Images::word_image, crate::proofs::Images::as_number, crate::proofs::Images::whole), unfolding(crate::specs::Layout::session_bytes))]
 fn bytes_of(s: Session) -> [u8; 52]
     ensures { result ≡ session_bytes s }
 {

@@ -20,6 +20,7 @@ fn hex_digit(n: u8) -> u8
 }
 
 // It calls itself, so it takes the text and the place: a cursor that is lent to a call stays in memory, and is slower.
+#[tactic(auto, using(crate::proofs::Numbers::decimal_one, crate::proofs::Numbers::decimal_more, crate::proofs::Numbers::length_more, crate::proofs::Putting::joined))]
 fn put_decimal(text: &mut [u8], at: usize, n: u32) -> usize
     requires { at + length (decimal n) ≤ length text.old }
     ensures { Put text.old at (decimal n) text.new result }
@@ -63,6 +64,7 @@ impl<'a> Cursor<'a> {
     }
 
     // A number after a space: of ten digits at most, and a byte of three.
+    #[tactic(auto, using(crate::proofs::Numbers::byte_digits, crate::proofs::Numbers::word_digits, crate::proofs::Putting::joined, crate::proofs::Putting::keeps))]
     pub(crate) fn number(&mut self, n: u32)
         requires { HasRoom self.old 11 }
         ensures puts { Puts self.old (space ∷ decimal n) self.new }

@@ -26,6 +26,7 @@ pub extern "C" fn vl53l0x_fresh(session: &mut [u8]) -> u8
 }
 
 // One record in, one outcome out. Returned is the outcome's number, or 17 where there are not 11 bytes for it.
+#[tactic(auto, using(layout::proofs::Images::fifty_two), unfolding(crate::specs::Exports::step_outcome, crate::specs::Exports::step_session, crate::specs::Exports::met, layout::specs::Layout::given_bytes))]
 #[unsafe(no_mangle)]
 pub extern "C" fn vl53l0x_step(session: &mut [u8], record: &[u8], outcome: &mut [u8]) -> u8
     ensures session_after { session.new ≡ step_session session.old «record».now outcome.old }
@@ -47,6 +48,7 @@ pub extern "C" fn vl53l0x_step(session: &mut [u8], record: &[u8], outcome: &mut 
     layout::put_given(outcome, o.given)
 }
 
+#[tactic(auto, unfolding(crate::specs::Exports::outstanding_in, crate::specs::Exports::outstanding_bytes, driver::specs::Replies::outstanding_of, layout::specs::Layout::given_bytes))]
 fn outstanding_in(session: &[u8]) -> Given
     ensures { given_bytes result ≡ outstanding_in session.now }
 {
