@@ -47,7 +47,7 @@ impl Show for Fields {
     }
 }
 
-// The session after a block, and how many bytes of text it made.
+// The session after a block, and how many bytes of text it made: a count, since the text is the caller's.
 #[derive(Clone, Copy)]
 pub struct Printout {
     pub session: Session,

@@ -18,6 +18,7 @@ pub fn measurement_timing_budget(r: TimingRegisters) -> Result<Microseconds, Pla
     }
 }
 
+// A test and no `try_from`, which would not say the limit of the place.
 #[tactic(auto, unfolding(crate::specs::Budget::word_of_sum))]
 fn word_of_sum(n: u32) -> Result<u16, NoWord>
     ensures { result ≡ word_of_sum n }

@@ -59,6 +59,7 @@ fn time_in(x: Result<Microseconds, Place>) -> u32
     x.unwrap_or(Microseconds(0)).0
 }
 
+// Call 15's sum and call 9's: two formulas of the source, and not one with a constant.
 #[tactic(auto, unfolding(crate::specs::Sums::budget_sum))]
 pub fn budget_sum(r: TimingRegisters) -> Microseconds
     ensures { result ≡ budget_sum r }

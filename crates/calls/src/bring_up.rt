@@ -6,7 +6,7 @@ ghost use Rattle.calls.specs.Parts.{stage, from_gpio, from_tuning};
 
 use crate::sections::{CLEARING, LAST_TIMING, budget_write, gpio_writes, in_order, timing_reads};
 use crate::tuning::load_tuning_settings;
-use session::Instruction;
+use session::{Instruction, SECOND_SLOT, TIMING_SLOT};
 
 // Identity, 2V8 mode, standard I2C mode and the stop byte, limit checks, signal rate limit.
 const OPENING: [Instruction; 15] = [
@@ -89,10 +89,10 @@ fn from_gpio(step: u8) -> Instruction
                 Instruction::WriteAnd(0x84, 0xEF),
             ),
             &CLEARING,
-            &timing_reads(8),
+            &timing_reads(TIMING_SLOT),
             &[LAST_TIMING, Instruction::WriteSteps],
-            &timing_reads(16),
-            &budget_write(16),
+            &timing_reads(SECOND_SLOT),
+            &budget_write(SECOND_SLOT),
             &stage(0x01, 0x41),
             &stage(0x02, 0x01),
             &[Instruction::Write(0x01, 0xE8)],

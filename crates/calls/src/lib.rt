@@ -57,13 +57,14 @@ const CALLS: [(Call, u8); 16] = [
 
 const NO_CALL: (Call, u8) = (Call::Nothing, 0);
 
+// A function and no `From`: a code that is no call has a Call too.
 pub fn call_of(code: u8) -> Call
     ensures { result ≡ call_of code }
 {
     looked_up(&CALLS, code, NO_CALL).0
 }
 
-// The instruction of a call at a step.
+// The instruction of a call at a step. A match and no table of functions: each call's own contract stands at its arm.
 #[tactic(auto, unfolding(crate::specs::Calls::program_for, crate::specs::Calls::step_of))]
 fn step_of(call: Call, step: u8) -> Instruction
     ensures { result ≡ step_of (program_for call).steps step }

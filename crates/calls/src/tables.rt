@@ -6,7 +6,7 @@ ghost use Rattle.calls.specs.Calls.{step_of};
 use crate::sections::{
     CLEARING, LAST_TIMING, PREPARATION, budget_write, gpio_writes, in_order, row, timing_reads,
 };
-use session::Instruction;
+use session::{Instruction, TIMING_SLOT};
 
 pub(crate) fn who_am_i(step: u8) -> Instruction
     ensures { result ≡ step_of who_am_i_call.steps step }
@@ -85,7 +85,10 @@ pub(crate) fn read_range_single(step: u8) -> Instruction
 pub(crate) fn set_budget(step: u8) -> Instruction
     ensures { result ≡ step_of set_budget_call.steps step }
 {
-    in_order(&[&timing_reads(8), &budget_write(8)], step)
+    in_order(
+        &[&timing_reads(TIMING_SLOT), &budget_write(TIMING_SLOT)],
+        step,
+    )
 }
 
 pub(crate) fn set_thresholds(step: u8) -> Instruction
@@ -133,5 +136,5 @@ pub(crate) fn set_signal_rate_limit(step: u8) -> Instruction
 pub(crate) fn get_budget(step: u8) -> Instruction
     ensures { result ≡ step_of get_budget_call.steps step }
 {
-    in_order(&[&timing_reads(8), &[LAST_TIMING]], step)
+    in_order(&[&timing_reads(TIMING_SLOT), &[LAST_TIMING]], step)
 }

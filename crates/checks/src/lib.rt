@@ -8,10 +8,10 @@ ghost use Rattle.session.specs.Calls.{arguments_ok};
 ghost use Rattle.session.specs.Machine.{all_zero, up_wrong, ill_formed};
 ghost use Rattle.checks.specs.Sound.{limit_of, limits_of, idle_at_step, malformed_at, ill_formed_at, stray_in};
 
-use session::{CallRecord, ReplyRecord, Session};
+use session::{CallRecord, ReplyRecord, Session, WITH_ADDRESS};
 use steps::Kind;
 
-// Are there n places from `at` on?
+// Are there n places from `at` on? No method says it of a length alone.
 pub fn has_room(length: usize, at: usize, n: usize) -> bool
     ensures { result ≡ leb (at + n) length }
 {
@@ -82,7 +82,7 @@ fn idle_at(s: Session, kind: Kind) -> bool
 fn up_wrong(code: u8, up: bool) -> bool
     ensures { result ≡ up_wrong code up }
 {
-    if code == 1 { up } else { !up }
+    if code == WITH_ADDRESS { up } else { !up }
 }
 
 #[tactic(auto, unfolding(crate::specs::Sound::limits_of, crate::specs::Sound::malformed_at))]

@@ -1,4 +1,2 @@
-pub mod Branches
 pub mod Doubling
 pub mod Halving
-pub mod Product

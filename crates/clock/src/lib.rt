@@ -14,7 +14,7 @@ use std::fmt;
 #[derive(Clone, Copy)]
 pub struct Mclks(pub u16);
 
-// Macro clocks as a conversion gives them, before they are cut to 16 bits.
+// Macro clocks as a conversion gives them, before they are cut to 16 bits: a type of its own, so that the cut cannot be forgotten.
 #[derive(Clone, Copy)]
 pub struct WideMclks(pub u32);
 
@@ -88,7 +88,7 @@ pub fn decode_timeout(register_value: u16) -> Result<Mclks, Place>
     }
 }
 
-// n halved until it is at most 255: 256 for each halving, plus what is left.
+// n halved until it is at most 255: 256 for each halving, plus what is left. It calls itself on the half, and counts nothing.
 fn halve(n: u16) -> u16
     ensures { result ≡ halved n }
 {
@@ -135,7 +135,7 @@ pub fn calc_macro_period(period: Pclks) -> Nanoseconds
     Nanoseconds((2304 * (period.0 as u32) * 1655 + 500) / 1000)
 }
 
-// The sum is made in 64 bits, where it always fits, and held against 32.
+// The sum is made in 64 bits, where it always fits, and held against 32: the test is of the sum, which is not what is cast in the end.
 #[tactic(auto, unfolding(crate::specs::Clock::microseconds_of))]
 pub fn timeout_mclks_to_microseconds(timeout: Mclks, period: Pclks) -> Result<Microseconds, Place>
     ensures { result ≡ mclks_to_microseconds timeout period }
@@ -167,7 +167,7 @@ pub fn timeout_microseconds_to_mclks(
     Ok(WideMclks((scaled / ns) as u32))
 }
 
-// Clocks cut to 16 bits.
+// Clocks cut to 16 bits: by the remainder, since a cast has to fit.
 pub fn cut_mclks(clocks: WideMclks) -> Mclks
     ensures { result ≡ cut_mclks clocks }
 {

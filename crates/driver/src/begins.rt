@@ -8,7 +8,7 @@ ghost use Rattle.driver.specs.Replies.{launching};
 use crate::replies::stays;
 use checks::{arguments_ok, ill_formed};
 use reactions::{Course, Outcome, Standing, Way, go, resting, way_of};
-use session::{Answer, CallRecord, Instruction, Session};
+use session::{Answer, CallRecord, Instruction, Session, WITH_ADDRESS};
 
 // What the arguments decide: an answer with no transfer made, or the first transfer.
 fn launch(s: Standing) -> Course
@@ -37,7 +37,7 @@ fn begun(s: Session, call: CallRecord) -> Session
 fn not_up(code: u8, up: bool) -> bool
     ensures { result ≡ not_up code up }
 {
-    if code == 1 { false } else { !up }
+    if code == WITH_ADDRESS { false } else { !up }
 }
 
 #[tactic(auto, unfolding(reactions::specs::Standing::leads, reactions::specs::Reactions::plan_of, reactions::specs::Reactions::acting, session::specs::Machine::begin_def, crate::specs::Replies::launching))]

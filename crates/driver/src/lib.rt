@@ -14,10 +14,5 @@ use session::{Driver, Session};
 pub fn fresh() -> Session
     ensures { result ≡ fresh_session }
 {
-    reactions::resting(Driver {
-        up: false,
-        address: 0,
-        stop: 0,
-        budget: 0,
-    })
+    reactions::resting(Driver::default())
 }

@@ -4,6 +4,7 @@ ghost use Rattle.lines.specs.Lines.{space, hex_digit, hex_pair, hex_pairs, decim
 ghost use Rattle.lines.specs.Put.{Put};
 ghost use Rattle.lines.specs.Cursor.{HasRoom, Puts};
 
+// How much room is left is no invariant of it: each part takes of the room, and says how much it needs.
 #[derive(Drop)]
 pub(crate) struct Cursor<'a> {
     pub(crate) text: &'a mut [u8],

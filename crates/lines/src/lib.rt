@@ -16,6 +16,7 @@ use checks::has_room;
 use reactions::{Given, Outcome};
 use session::{Answer, Driver, Transfer};
 
+// An answer has a number and a value, so that neither is a `From`.
 pub fn number_of(x: Answer) -> u8
     ensures { result ≡ number_of x }
 {

@@ -41,6 +41,7 @@ pub struct Outcome {
     pub session: Session,
 }
 
+// Five ways, of which none is an absence or an error, so that no Option or Result says them.
 // Where a record leads: on to a step, to the same read once more after so many idle ones, out with an answer, or nowhere, since it is refused or the
 // session is ill-formed.
 #[derive(Clone, Copy)]
@@ -53,7 +54,7 @@ pub enum Way {
 }
 
 // What that comes to: an instruction is sent at a step after so many idle reads there, the call ends after its last
-// instruction or with an answer, or the session stays.
+// instruction or with an answer, or the session stays. A case for each way that is left, as above.
 #[derive(Clone, Copy)]
 pub enum Plan {
     Send(Instruction, u8, u32),
@@ -71,7 +72,8 @@ pub fn go(c: Course) -> Outcome
     act(plan_of(c), c.session)
 }
 
-// The course of a session that waits for the reply to an instruction of a shape.
+// The course of a session that waits for the reply to an instruction of a shape. The shape is looked up once, for speed, and is in no type:
+// what is sent afterwards has none.
 pub fn react(s: Standing, shape: Shape, reply: ReplyRecord) -> Course
     requires { shape ≡ shape_of (op_of s.at) }
     ensures { Reaches result (react (op_of s.at) (program_of s.session.code) s.session (to_reply reply.failure reply.data)) }

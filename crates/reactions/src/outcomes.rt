@@ -9,7 +9,7 @@ ghost use Rattle.reactions.specs.Reactions.{moves, most_in, ending, concluding, 
 
 use crate::{Given, Outcome, Plan, Standing};
 use ends::{Finished, RangeFailure};
-use session::{Answer, Driver, Instruction, Session, Transfer};
+use session::{Answer, Driver, Instruction, Session, Transfer, WITH_ADDRESS};
 
 // All that a call carried becomes zero.
 pub fn resting(driver: Driver) -> Session
@@ -46,7 +46,7 @@ fn sending(step: u8, idle: u32, s: Session) -> Session
 fn address_of(s: Standing) -> u8
     ensures { result ≡ address_of s.session.code s.session.a s.session.driver }
 {
-    if s.session.code == 1 {
+    if s.session.code == WITH_ADDRESS {
         s.session.a as u8
     } else {
         s.session.driver.address
@@ -108,6 +108,7 @@ fn conclude(s: Standing) -> Outcome
     )
 }
 
+// What it asks of the session is in no type here, since a plan is made by a definition, which holds no proofs.
 #[tactic(auto, unfolding(crate::specs::Outcome::outcome_of, crate::specs::Reactions::acting))]
 pub(crate) fn act(plan: Plan, s: Session) -> Outcome
     requires sound_if { SoundIf (moves plan) s }

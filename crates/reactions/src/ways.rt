@@ -5,7 +5,7 @@ ghost use Rattle.reactions.specs.Reactions.{way_of, reported, idling, waiting, d
 
 use crate::{Standing, Way};
 use checks::limit_of;
-use session::{Answer, ReplyRecord, Session};
+use session::{Answer, READ_RANGE_MM, ReplyRecord, Session};
 use steps::{Kind, Next, Shape};
 
 // A leap leaves out `over` instructions.
@@ -25,7 +25,7 @@ pub fn way_of(next: Next, over: u8, step: u16) -> Way
 fn reported(code: u8, s: Session) -> u8
     ensures { result ≡ reported code s }
 {
-    if s.code == 6 {
+    if s.code == READ_RANGE_MM {
         if s.failed == 0 { code } else { s.failed }
     } else {
         code

@@ -9,7 +9,7 @@ ghost use Rattle.reader.specs.Events.{event_at, place_after, event_number};
 pub use events::{event_at, place_after};
 use session::{CallRecord, ReplyRecord};
 
-// A call, a reply, a record that is neither, the end, or fewer than eight bytes (answer 14).
+// A call, a reply, a record that is neither, the end, or fewer than eight bytes (answer 14). The last two are events, so that a reader always gives one.
 #[derive(Clone, Copy)]
 pub enum Event {
     Call(CallRecord),
@@ -19,6 +19,7 @@ pub enum Event {
     Spare,
 }
 
+// The slice and a cursor, with free functions over them: a rule of the project.
 #[derive(Clone, Copy)]
 pub struct Reader<'a> {
     pub records: &'a [u8],

@@ -15,7 +15,7 @@ struct Progress {
     counts: Counts,
 }
 
-// The counts after a record of a kind.
+// The counts after a record of a kind, which is its first byte: so the definitions count them.
 #[tactic(auto, using(crate::proofs::Turns::at_most_one), unfolding(crate::specs::Runs::one_if, crate::specs::Runs::added_to))]
 fn added_to(counts: Counts, kind: u8, given: Given) -> Option<Counts>
     requires { Room counts (2 ^ 63) }

@@ -1,9 +1,20 @@
 // The types that definitions and code share.
 #![tactic(auto)]
 
+// The codes of two calls that code asks for by name: `with_address` and `read_range_mm`.
+pub const WITH_ADDRESS: u8 = 1;
+
+pub const READ_RANGE_MM: u8 = 6;
+
+// The slots of the first and of a bring-up's second budget reads among the carried bytes.
+pub const TIMING_SLOT: u8 = 8;
+
+pub const SECOND_SLOT: u8 = 16;
+
 // lib.rs: the fields of VL53L0x that a call can change. What is known of a sensor that is up: its address, its stop byte and its stored budget in
 // microseconds. All zero while it is not up.
-#[derive(Clone, Copy)]
+// `up` stands beside them and is no Option around them: callers in C hand in any bytes for these four, and have them back as they were.
+#[derive(Clone, Copy, Default)]
 pub struct Driver {
     pub up: bool,
     pub address: u8,
@@ -16,6 +27,7 @@ pub struct Driver {
 // instructions, `idle` the idle reads of the wait it stands at, `transfers` those made so far.
 // `failed` is the failure code of its range read, `own` the budget that its first six budget reads
 // gave, `carried` the reply bytes that it has kept, raw.
+// `code` and `failed` are numbers, where 0 says that there is none, since callers in C hand in any: answer 15 judges them, and not a type.
 #[derive(Clone, Copy)]
 pub struct Session {
     pub driver: Driver,
@@ -31,7 +43,7 @@ pub struct Session {
 }
 
 // 01: "an address, 1..7 written bytes and a read length". The first `count` bytes of `written` are sent to `address`, then `reads` bytes
-// are read. The bytes of `written` after them are zero.
+// are read. The bytes of `written` after them are zero. `count` stands beside seven bytes because memory is fixed, and as callers in C read it.
 #[derive(Clone, Copy)]
 pub struct Transfer {
     pub address: u8,
@@ -48,7 +60,7 @@ pub struct CallRecord {
     pub b: u16,
 }
 
-// A reply of the bus as a record gives it: the failure code or 0, and six data bytes.
+// A reply of the bus as a record gives it: the failure code or 0, and six data bytes, just as a record has them.
 #[derive(Clone, Copy)]
 pub struct ReplyRecord {
     pub failure: u8,
@@ -56,6 +68,7 @@ pub struct ReplyRecord {
 }
 
 // 01's numbered answers, 0 to 15, in the names of lib.rs's Error where it has one. The first nine end a call, the others refuse a record or a list.
+// Places and failure codes are numbers here: functions that print an answer take every one.
 #[derive(Clone, Copy)]
 pub enum Answer {
     Done(u32),
@@ -77,10 +90,10 @@ pub enum Answer {
 }
 
 // One step of a call: a transfer and what is done with its reply. Registers, bytes and slots of
-// the carried bytes are numbers.
+// the carried bytes are numbers. A closed enum and no closures, so that calls are tables and every function goes through all of it.
 #[derive(Clone, Copy)]
 pub enum Instruction {
-    // No step: what a table gives past its end.
+    // No step: what a table gives past its end. A variant and no Option around the others, as public functions take it too.
     Nowhere,
     // Write a byte to a register.
     Write(u8, u8),

@@ -61,7 +61,7 @@ fn keep_bit(b: u8, left: Left) -> Step
     }
 }
 
-// The low `n` bits of `b`, from the lowest on.
+// The low `n` bits of `b`, from the lowest on. It calls itself on the bits above, as `keep` goes through a list.
 fn keep_bits(n: u8, b: u8, left: Left) -> u8
     requires { n ≤ 8 }
     ensures { result ≡ byte_of (keep left.skip left.wanted (bits_of n b)) }

@@ -4,9 +4,10 @@ ghost use Rattle.session.specs.Instructions.{bytes_from, put};
 ghost use Rattle.steps.specs.Steps.{own_of, keeping};
 
 use crate::values::budget_in;
-use session::Session;
+use session::{Session, TIMING_SLOT};
 
 // The first n bytes of a reply go to the slots from `slot` on; past the last slot nothing is kept, past the sixth byte there is none.
+// Written by index: an iterator over the slots leaves nothing known of those that it passes by.
 fn store_bytes(carried: [u8; 24], slot: u16, n: u8, bytes: [u8; 6]) -> [u8; 24]
     ensures { result ≡ put carried slot (bytes_from 0 n bytes) }
 {
@@ -25,8 +26,8 @@ fn store_bytes(carried: [u8; 24], slot: u16, n: u8, bytes: [u8; 6]) -> [u8; 24]
 fn own_budget(slot: u16, carried: [u8; 24], own: u32) -> u32
     ensures { result ≡ own_of slot carried own }
 {
-    if slot == 15 {
-        budget_in(8, carried)
+    if slot == TIMING_SLOT as u16 + 7 {
+        budget_in(TIMING_SLOT, carried)
     } else {
         own
     }

@@ -4,7 +4,7 @@ ghost use Rattle.session.specs.Steps.{op_of, timing_register, timing_length, tim
 ghost use Rattle.steps.specs.Steps.{shape_of, writing, reading, awaiting, timing_read};
 
 use crate::{Kind, Shape};
-use session::Instruction;
+use session::{Instruction, SECOND_SLOT};
 
 // A write that reads back `reads` bytes.
 fn writing(register: u8, reads: u8, over: u8) -> Shape
@@ -51,9 +51,6 @@ pub struct TimingRead {
     pub place: u8,
 }
 
-// A word has two bytes.
-const WORD: u8 = 2;
-
 const NO_READ: TimingRead = TimingRead {
     register: 0x00,
     length: 0,
@@ -69,12 +66,12 @@ const TIMING_READS: [TimingRead; 7] = [
     },
     TimingRead {
         register: 0x51,
-        length: WORD,
+        length: 2,
         place: 1,
     },
     TimingRead {
         register: 0x71,
-        length: WORD,
+        length: 2,
         place: 3,
     },
     TimingRead {
@@ -118,7 +115,7 @@ fn timing_shape(n: u8, slot: u8) -> Shape
 fn over_last(slot: u8) -> u8
     ensures { result ≡ over_last slot }
 {
-    if slot == 16 { 1 } else { 0 }
+    if slot == SECOND_SLOT { 1 } else { 0 }
 }
 
 fn last_shape(slot: u8) -> Shape

@@ -6,7 +6,7 @@ ghost use Rattle.session.specs.Machine.{held_by, context_of};
 
 use budget::{DssTerm, NoWord};
 use clock::Microseconds;
-use session::{Driver, Session};
+use session::{Driver, SECOND_SLOT, Session, WITH_ADDRESS};
 use std::array::from_fn;
 use timing::TimingRegisters;
 
@@ -14,13 +14,8 @@ use timing::TimingRegisters;
 pub fn held(code: u8, driver: Driver) -> Driver
     ensures { result ≡ held_by code driver }
 {
-    if code == 1 {
-        Driver {
-            up: false,
-            address: 0,
-            stop: 0,
-            budget: 0,
-        }
+    if code == WITH_ADDRESS {
+        Driver::default()
     } else {
         driver
     }
@@ -53,7 +48,7 @@ pub(crate) fn budget_in(slot: u8, carried: [u8; 24]) -> u32
 fn budget_to_set(slot: u8, s: Session) -> u32
     ensures { result ≡ budget_to_set slot (context_of s) }
 {
-    if slot == 16 { s.own } else { s.a }
+    if slot == SECOND_SLOT { s.own } else { s.a }
 }
 
 pub fn word_to_set(slot: u8, s: Session) -> Result<u16, NoWord>

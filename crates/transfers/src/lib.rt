@@ -30,7 +30,7 @@ fn sent(address: u8, bytes: &[u8], reads: u8) -> Transfer
     }
 }
 
-// A register alone, then `reads` bytes read.
+// A register alone, then `reads` bytes read. Address and register are two numbers here, and not a struct that only these four would take.
 fn read(address: u8, register: u8, reads: u8) -> Transfer
     ensures { result ≡ transfer_of address (register ∷ []) reads }
 {

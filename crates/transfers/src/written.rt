@@ -1,4 +1,4 @@
-// Values that are written.
+// Values that are written. `|` and `&` have the names of their definitions here.
 ghost use Rattle.std.specs.Prelude.{◌≡◌};
 ghost use Rattle.spad.specs.Masks.{or_byte, and_byte};
 ghost use Rattle.session.specs.Steps.{new_map};

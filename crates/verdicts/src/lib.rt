@@ -9,7 +9,7 @@ ghost use Rattle.verdicts.specs.Verdicts.{identified, prepared, ready, steps_wri
 
 use budget::NoWord;
 use clock::Place;
-use session::{Answer, Instruction, Session};
+use session::{Answer, Instruction, SECOND_SLOT, Session};
 use steps::{Next, oscillator_word, timed_period, timing_in, word_to_set};
 
 // The identity has to be 0xEE.
@@ -83,7 +83,7 @@ fn timing_read(n: u8, slot: u8, s: Session) -> Next
 fn no_time(slot: u8) -> Next
     ensures { result ≡ settled (no_time slot) }
 {
-    if slot == 16 {
+    if slot == SECOND_SLOT {
         Next::Leap
     } else {
         Next::Stop(Answer::False)

@@ -6,4 +6,4 @@ use Rattle.reactions.proofs.outcomes.address_of.Goals as goal
 pub overflow_cast-result : goal.overflow_cast-result
 overflow_cast-result c =
     let s = c.args.s.session in
-    omega (arith, address_small s.code s.a s.b c.args.s.ready.sound.arguments c.if-s-eq1.true)
+    omega (arith, address_small s.code s.a s.b c.args.s.ready.sound.arguments c.if-s-eq-WITH_ADDRESS.true)

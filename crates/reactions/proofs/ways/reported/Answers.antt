@@ -5,4 +5,4 @@ use Rattle.reactions.proofs.ways.reported.Goals as goal
 
 pub returns-else-s-eq0 : goal.returns-else-s-eq0
 unfolding reported
-returns-else-s-eq0 c = report_read _ _ _ c.if-s-eq6.true c.if-s-eq0.false
+returns-else-s-eq0 c = report_read _ _ _ c.if-s-eq-READ_RANGE_MM.true c.if-s-eq0.false
