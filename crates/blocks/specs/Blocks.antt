@@ -6,35 +6,28 @@ use Rattle.session.specs.History.{session_of}
 use Rattle.reactions.specs.declared.Outcome.{Outcome}
 use Rattle.reactions.specs.Outcome.{outcome_of}
 use Rattle.records.specs.Records.{record_in}
-use Rattle.lines.specs.Lines.{outcome_line, fields_line}
 use Rattle.lines.specs.Put.{Put}
-use Rattle.blocks.specs.declared.Show.{Show}
 use Rattle.blocks.specs.declared.Printout.{Printout}
 
--- the line of a record
-unfoldable pub line_of : Show → Outcome → List ℕ
-line_of Show.Outcomes o = outcome_line o
-line_of Show.Fields o = fields_line o.session.driver
-
--- each record meets the session that the one before it left
-unfoldable pub lines_of : Show → Session → List Record → List ℕ
-lines_of show s [] = []
-lines_of show s (r ∷ rs) = line_of show (outcome_of (step_def s r)) ++ lines_of show (session_of (step_def s r)) rs
+-- the lines of records, where `line` is the line of an outcome: each record meets the session that the one before it left
+unfoldable pub lines_of : (Outcome → List ℕ) → Session → List Record → List ℕ
+lines_of line s [] = []
+lines_of line s (r ∷ rs) = line (outcome_of (step_def s r)) ++ lines_of line (session_of (step_def s r)) rs
 
 unfoldable pub session_past : Session → List Record → Session
 session_past s [] = s
 session_past s (r ∷ rs) = session_past (session_of (step_def s r)) rs
 
 -- the line of one record, and the session after it
-pub record OneMore (show : Show) (p : Printout) (bytes out out' : List ℕ) (r : Printout) : Type 0 where
-  pub line : Put out p.count (line_of show (outcome_of (step_def p.session (record_in bytes)))) out' r.count
+pub record OneMore (line_of : Outcome → List ℕ) (p : Printout) (bytes out out' : List ℕ) (r : Printout) : Type 0 where
+  pub line : Put out p.count (line_of (outcome_of (step_def p.session (record_in bytes)))) out' r.count
   pub short : r.count ≤ p.count + 32
   pub session : r.session ≡ session_of (step_def p.session (record_in bytes))
 
 -- the lines of a list stand at the start of the lent bytes, and those after them are as they were
-pub record Printed (show : Show) (s : Session) (bytes out out' : List ℕ) (r : Printout) : Type 0 where
-  pub text : out' ≡ lines_of show s (records_of bytes) ++ drop r.count out
-  pub count : r.count ≡ length (lines_of show s (records_of bytes))
+pub record Printed (line_of : Outcome → List ℕ) (s : Session) (bytes out out' : List ℕ) (r : Printout) : Type 0 where
+  pub text : out' ≡ lines_of line_of s (records_of bytes) ++ drop r.count out
+  pub count : r.count ≡ length (lines_of line_of s (records_of bytes))
   pub session : r.session ≡ session_past s (records_of bytes)
 
 -- where the room is too small nothing is done
@@ -44,7 +37,7 @@ pub record NotPrinted (s : Session) (out out' : List ℕ) (r : Printout) : Type 
   pub session : r.session ≡ s
 
 -- four bytes of room for each byte of records are enough: a line has at most 32
-pub record Prints (show : Show) (s : Session) (bytes out out' : List ℕ) (r : Printout) : Type 0 where
-  pub with_room : 4 * length bytes ≤ length out → Printed show s bytes out out' r
+pub record Prints (line_of : Outcome → List ℕ) (s : Session) (bytes out out' : List ℕ) (r : Printout) : Type 0 where
+  pub with_room : 4 * length bytes ≤ length out → Printed line_of s bytes out out' r
   pub without : length out < 4 * length bytes → NotPrinted s out out' r
   pub fits : r.count ≤ length out'

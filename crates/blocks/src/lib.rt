@@ -1,18 +1,50 @@
 // The lines of a block of records, as one text.
 #![tactic(auto)]
 
-ghost use Rattle.std.specs.Prelude.{◌+◌, ◌*◌, ◌≤◌, length};
+ghost use Rattle.std.specs.Prelude.{ℕ, List, ◌+◌, ◌*◌, ◌≤◌, length};
+ghost use Rattle.reactions.specs.declared.Outcome.{Outcome};
+ghost use Rattle.lines.specs.Lines.{outcome_line, fields_line};
 ghost use Rattle.lines.specs.Put.{PutLine};
-ghost use Rattle.blocks.specs.Blocks.{line_of, OneMore, Printed, Prints};
+ghost use Rattle.blocks.specs.Blocks.{OneMore, Printed, Prints};
 
 use reactions::Outcome;
 use session::Session;
 
-// What is printed of a record: what it gave, or the driver's fields after it.
-#[derive(Clone, Copy)]
-pub enum Show {
-    Outcomes,
-    Fields,
+// What is printed of a record, and of spare bytes, which are no record, at the end of the input.
+pub trait Show {
+    ghost line_of: { Outcome → List ℕ };
+
+    const SPARE: &'static [u8];
+
+    // The line of a record goes into the text from `at` on; the place after it is returned.
+    fn put_line(text: &mut [u8], at: usize, o: Outcome) -> usize
+        ensures { PutLine text.old at (line_of o) text.new result };
+}
+
+// What a record gave; for spare bytes answer 14.
+pub struct Outcomes;
+
+// The driver's fields after a record; spare bytes leave them.
+pub struct Fields;
+
+impl Show for Outcomes {
+    ghost line_of = { outcome_line };
+
+    const SPARE: &'static [u8] = b"A 14 0 0\n";
+
+    fn put_line(text: &mut [u8], at: usize, o: Outcome) -> usize {
+        lines::outcome_line(text, at, o)
+    }
+}
+
+impl Show for Fields {
+    ghost line_of = { λ o. fields_line o.session.driver };
+
+    const SPARE: &'static [u8] = b"";
+
+    fn put_line(text: &mut [u8], at: usize, o: Outcome) -> usize {
+        lines::fields_line(text, at, o.session.driver)
+    }
 }
 
 // The session after a block, and how many bytes of text it made.
@@ -22,53 +54,37 @@ pub struct Printout {
     pub count: usize,
 }
 
-// The line of a record goes into the text from `at` on; the place after it is returned.
-fn put_line(show: Show, o: Outcome, out: &mut [u8], at: usize) -> usize
-    ensures { PutLine out.old at (line_of show o) out.new result }
-{
-    let session = o.session;
-    let driver = session.driver;
-    match show {
-        Show::Outcomes => lines::outcome_line(out, at, o),
-        Show::Fields => lines::fields_line(out, at, driver),
-    }
-}
-
 // One record more: its line goes into the text.
-fn print_record(show: Show, p: Printout, record: [u8; 8], out: &mut [u8]) -> Printout
+fn print_record<S: Show>(p: Printout, record: [u8; 8], out: &mut [u8]) -> Printout
     requires { p.count + 32 ≤ length out.old }
-    ensures { OneMore show p «record» out.old out.new result }
+    ensures { OneMore S.line_of p «record» out.old out.new result }
 {
-    let session = p.session;
-    let o = records::step(session, record);
-    let next = o.session;
-    let count = put_line(show, o, out, p.count);
+    let o = records::step(p.session, record);
     Printout {
-        session: next,
-        count,
+        session: o.session,
+        count: S::put_line(out, p.count, o),
     }
 }
 
-fn print_records(show: Show, s: Session, bytes: &[u8], out: &mut [u8]) -> Printout
+fn print_records<S: Show>(s: Session, bytes: &[u8], out: &mut [u8]) -> Printout
     requires { 4 * length bytes.now ≤ length out.old }
-    ensures { Printed show s bytes.now out.old out.new result }
+    ensures { Printed S.line_of s bytes.now out.old out.new result }
 {
+    let (records, _) = bytes.as_chunks();
     let mut p = Printout {
         session: s,
         count: 0,
     };
-    let mut i: usize = 0;
-    while 8 <= bytes.len() - i {
-        p = print_record(show, p, records::record_at(bytes, i), out);
-        i += 8;
+    for record in records {
+        p = print_record::<S>(p, *record, out);
     }
     p
 }
 
 // The lines of the whole records of a block go to the start of the text. Where that has less than four bytes for each byte of the
 // block, nothing is done.
-pub fn print(show: Show, s: Session, bytes: &[u8], out: &mut [u8]) -> Printout
-    ensures { Prints show s bytes.now out.old out.new result }
+pub fn print<S: Show>(s: Session, bytes: &[u8], out: &mut [u8]) -> Printout
+    ensures { Prints S.line_of s bytes.now out.old out.new result }
 {
     if out.len() / 4 < bytes.len() {
         return Printout {
@@ -76,5 +92,5 @@ pub fn print(show: Show, s: Session, bytes: &[u8], out: &mut [u8]) -> Printout
             count: 0,
         };
     }
-    print_records(show, s, bytes, out)
+    print_records::<S>(s, bytes, out)
 }

@@ -73,10 +73,10 @@ pub fn limit_of(code: u8, kind: Kind) -> u32
 
 // A step that is not of its call, or too many idle reads for an instruction of a kind.
 #[tactic(auto, unfolding(crate::specs::Sound::idle_at_step))]
-fn idle_at(code: u8, step: u8, kind: Kind, idle: u32) -> bool
-    ensures { result ≡ idle_at_step code step kind idle }
+fn idle_at(s: Session, kind: Kind) -> bool
+    ensures { result ≡ idle_at_step s.code s.step kind s.idle }
 {
-    calls::steps_in(code) <= step || limit_of(code, kind) <= idle
+    calls::steps_in(s.code) <= s.step || limit_of(s.code, kind) <= s.idle
 }
 
 fn up_wrong(code: u8, up: bool) -> bool
@@ -97,7 +97,7 @@ fn malformed_at(s: Session, kind: Kind) -> bool
     let Limits(_, _, ceiling) = limits_of(s.code);
     !arguments_ok(call)
         || up_wrong(s.code, s.driver.up)
-        || idle_at(s.code, s.step, kind, s.idle)
+        || idle_at(s, kind)
         || s.transfers == 0
         || ceiling < s.transfers
 }

@@ -1,107 +1,74 @@
 // Standard input to standard output: records in, lines out, block by block.
 #![tactic(auto)]
 
-ghost use Rattle.std.specs.Prelude.{◌≤◌, length};
-
 use blocks::Show;
 use session::Session;
 use std::io;
 use std::io::{ErrorKind, Read, Write};
 
-// The session after a block, and whether there may be another.
-#[derive(Clone, Copy)]
-struct Printed {
-    session: Session,
-    more: bool,
-}
-
-// A pipe gives its bytes in pieces of any length: only the end of the input, or a failure, leaves a block short.
-// `count` is how many bytes were read, also where reading fails.
-fn read_full<R: Read>(reader: &mut R, block: &mut [u8], count: &mut usize) -> io::Result<()>
-    ensures { count.new ≤ length block.new }
-{
-    *count = 0;
+// The part of a block that was filled, and how that ended. A pipe gives its bytes in pieces of any length: only the end of the input, or
+// a failure, leaves a block short. Nothing says that a signal comes only so often, so the loop counts its turns.
+fn fill<'a>(reader: &mut impl Read, block: &'a mut [u8]) -> (&'a [u8], io::Result<()>) {
+    let mut count = 0;
+    let mut ended = Ok(());
     for _ in 0..u64::MAX {
-        let done = *count;
-        if done == block.len() {
+        if count == block.len() {
             break;
         }
-        match reader.read(&mut block[done..]) {
+        match reader.read(&mut block[count..]) {
             Ok(0) => break,
-            Ok(n) => *count = done + n,
+            Ok(n) => count += n,
+            // A signal came before any byte did.
+            Err(e) if e.kind() == ErrorKind::Interrupted => {}
             Err(e) => {
-                // A signal came before any byte did.
-                if e.kind() != ErrorKind::Interrupted {
-                    return Err(e);
-                }
+                ended = Err(e);
+                break;
             }
         }
     }
-    Ok(())
+    (&block[..count], ended)
 }
 
-// Spare bytes at the end are answer 14. They are no record, so that no fields follow them.
-fn spare<W: Write>(writer: &mut W, show: Show) -> io::Result<()> {
-    match show {
-        Show::Outcomes => writer.write_all(b"A 14 0 0\n"),
-        Show::Fields => Ok(()),
-    }
-}
-
-// A short block is the last. Where reading fails, the records that came before are printed first.
-fn print_block<R: Read, W: Write>(
-    reader: &mut R,
-    writer: &mut W,
-    show: Show,
+// The session after a block, if there may be another block: a short one is the last. Where reading fails, the records that came before
+// are printed first.
+fn print_block<S: Show>(
+    reader: &mut impl Read,
+    writer: &mut impl Write,
     s: Session,
     block: &mut [u8],
     text: &mut [u8],
-) -> io::Result<Printed> {
-    let mut n = 0;
-    let read = read_full(reader, block, &mut n);
-    let p = blocks::print(show, s, &block[..n], text);
-    let count = p.count;
-    let session = p.session;
-    writer.write_all(&text[..count])?;
-    read?;
-    if n % 8 != 0 {
-        spare(writer, show)?;
+) -> io::Result<Option<Session>> {
+    let size = block.len();
+    let (bytes, ended) = fill(reader, block);
+    let p = blocks::print::<S>(s, bytes, text);
+    writer.write_all(&text[..p.count])?;
+    ended?;
+    if bytes.len() % 8 != 0 {
+        writer.write_all(S::SPARE)?;
     }
-    Ok(Printed {
-        session,
-        more: n == block.len(),
-    })
+    Ok((bytes.len() == size).then_some(p.session))
 }
 
 // Nothing says that the input ends, so the loop counts its turns.
-fn print_blocks<R: Read, W: Write>(
-    reader: &mut R,
-    writer: &mut W,
-    show: Show,
+fn print_blocks<S: Show>(
+    reader: &mut impl Read,
+    writer: &mut impl Write,
     block: &mut [u8],
     text: &mut [u8],
 ) -> io::Result<()> {
     let mut s = driver::fresh();
     for _ in 0..u64::MAX {
-        let p = print_block(reader, writer, show, s, block, text)?;
-        let next = p.session;
-        s = next;
-        if !p.more {
-            break;
+        match print_block::<S>(reader, writer, s, block, text)? {
+            Some(next) => s = next,
+            None => break,
         }
     }
     Ok(())
 }
 
 // A block is a quarter of the text, so that the lines of its records fit.
-pub fn run(rt: &(impl Input + Print), show: Show) -> io::Result<()> {
+pub fn run<S: Show>(rt: &(impl Input + Print)) -> io::Result<()> {
     let mut block = [0u8; 16384];
     let mut text = [0u8; 65536];
-    print_blocks(
-        &mut rt.reader(),
-        &mut io::writer(rt),
-        show,
-        &mut block,
-        &mut text,
-    )
+    print_blocks::<S>(&mut rt.reader(), &mut io::writer(rt), &mut block, &mut text)
 }

@@ -17,6 +17,20 @@ fn hex_digit(n: u8) -> u8
     if n < 10 { b'0' + n } else { b'A' - 10 + n }
 }
 
+// It calls itself, so it takes the text and the place: a cursor that is lent to a call stays in memory, and is slower.
+fn put_decimal(text: &mut [u8], at: usize, n: u32) -> usize
+    requires { at + length (decimal n) ≤ length text.old }
+    ensures { Put text.old at (decimal n) text.new result }
+{
+    if n < 10 {
+        text[at] = b'0' + n as u8;
+        return at + 1;
+    }
+    let next = put_decimal(text, at, n / 10);
+    text[next] = b'0' + (n % 10) as u8;
+    next + 1
+}
+
 impl<'a> Cursor<'a> {
     pub(crate) fn byte(&mut self, byte: u8)
         requires { self.old.at < length self.old.text.now }
@@ -52,20 +66,6 @@ impl<'a> Cursor<'a> {
         }
     }
 
-    fn decimal(&mut self, n: u32)
-        requires { self.old.at + length (decimal n) ≤ length self.old.text.now }
-        ensures same_text { self.new.text.ghost_name ≡ self.old.text.ghost_name }
-        ensures same_length { length self.new.text.now ≡ length self.old.text.now }
-        ensures put { Put self.old.text.now self.old.at (decimal n) self.new.text.now self.new.at }
-    {
-        if n < 10 {
-            self.byte(b'0' + n as u8);
-        } else {
-            self.decimal(n / 10);
-            self.byte(b'0' + (n % 10) as u8);
-        }
-    }
-
     // A number after a space: of ten digits at most, and a byte of three.
     pub(crate) fn number(&mut self, n: u32)
         requires { self.old.at + 11 ≤ length self.old.text.now }
@@ -76,6 +76,6 @@ impl<'a> Cursor<'a> {
         ensures of_a_byte { n < 256 → self.new.at ≤ self.old.at + 4 }
     {
         self.byte(b' ');
-        self.decimal(n);
+        self.at = put_decimal(self.text, self.at, n);
     }
 }

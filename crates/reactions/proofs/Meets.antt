@@ -2,10 +2,9 @@
 use mathlib.Core.Path.{◌≡◌, refl, sym, ◌∙◌, ap}
 use mathlib.Core.Bool.{Bool, true, false, cond, ◌&&◌}
 use mathlib.Core.List.{List}
-use Prim.Native.Nat.{ℕ, zero, suc, ◌+◌, ◌≤◌, ◌<◌}
-use native.Mathlib.Numerals.{add-one}
+use Prim.Native.Nat.{ℕ, zero, suc, ◌+◌, ◌≤◌}
 use native.Mathlib.Omega.{arith}
-use borrow.Author.Tests.{ltb-true, ltb-false, lt-ltb, le-ltb, ne_eqb}
+use borrow.Author.Tests.{ltb-true, ltb-false, ne_eqb}
 use lib.Dec.{eqb, ltb}
 use Rattle.session.specs.declared.Session.{Session}
 use Rattle.session.specs.declared.Answer.{Answer}
@@ -167,17 +166,6 @@ unfolding moves
 end_sound x s e h = h (rw e refl)
 
 pub ruleset fitting = (send_fits, send_sound, end_sound)
-
-pub idles : (idle limit : ℕ) → idle + 1 < limit → Way.Again (idle + 1) ≡ idling idle limit
-unfolding idling
-idles idle limit h = rw add-one (sym (rw (lt-ltb (suc idle) limit (omega arith)) refl))
-
-pub times_out : (idle limit : ℕ) → limit ≤ idle + 1 → Way.Out Answer.Timeout ≡ idling idle limit
-unfolding idling
-times_out idle limit h = sym (rw (le-ltb (suc idle) limit (omega arith)) refl)
-
-pub report_none : (code failed e : ℕ) → code ≡ 6 → failed ≡ 0 → e ≡ report_of (read_wins code) failed e
-report_none code failed e h n = sym (rw (h, n) refl)
 
 pub report_read : (code failed e : ℕ) → code ≡ 6 → (failed ≡ 0 → ⊥) → failed ≡ report_of (read_wins code) failed e
 report_read code zero e h n = absurd (n refl)

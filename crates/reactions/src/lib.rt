@@ -68,7 +68,7 @@ pub enum Plan {
 pub fn go(c: Course) -> Outcome
     ensures { result ≡ outcome_of (reached c) }
 {
-    act(plan_of(c.way, c.at, c.session), c.session)
+    act(plan_of(c), c.session)
 }
 
 // The course of a session that waits for the reply to an instruction of a shape.
@@ -76,11 +76,14 @@ pub fn react(s: Standing, shape: Shape, reply: ReplyRecord) -> Course
     requires { shape ≡ shape_of (op_of s.at) }
     ensures { Reaches result (react (op_of s.at) (program_of s.session.code) s.session (to_reply reply.failure reply.data)) }
 {
-    let session = kept_by(shape, s.session, reply);
-    let way = way_after(s.at, shape, session, reply);
+    let kept = Standing {
+        at: s.at,
+        session: kept_by(shape, s.session, reply),
+    };
+    let way = way_after(kept, shape, reply);
     Course {
         way,
-        at: s.at,
-        session,
+        at: kept.at,
+        session: kept.session,
     }
 }

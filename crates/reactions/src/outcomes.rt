@@ -47,7 +47,7 @@ fn address_of(s: Standing) -> u8
     ensures { result ≡ address_of s.session.code s.session.a s.session.driver }
 {
     if s.session.code == 1 {
-        (s.session.a % 256) as u8
+        s.session.a as u8
     } else {
         s.session.driver.address
     }

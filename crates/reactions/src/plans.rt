@@ -2,8 +2,8 @@
 ghost use Rattle.std.specs.Prelude.{◌≡◌};
 ghost use Rattle.reactions.specs.Reactions.{arrival_at, plan_of};
 
-use crate::{Plan, Way};
-use session::{Instruction, Session};
+use crate::{Course, Plan, Way};
+use session::Session;
 
 // The instruction at a step of the session's call; past the last, the end.
 #[tactic(auto, unfolding(crate::specs::Reactions::arrival_at))]
@@ -18,12 +18,12 @@ fn arrival_at(step: u32, s: Session) -> Plan
 }
 
 #[tactic(auto, unfolding(crate::specs::Reactions::plan_of))]
-pub(crate) fn plan_of(way: Way, i: Instruction, s: Session) -> Plan
-    ensures { result ≡ plan_of way i s }
+pub(crate) fn plan_of(c: Course) -> Plan
+    ensures { result ≡ plan_of c.way c.at c.session }
 {
-    match way {
-        Way::To(step) => arrival_at(step, s),
-        Way::Again(idle) => Plan::Send(i, s.step, idle),
+    match c.way {
+        Way::To(step) => arrival_at(step, c.session),
+        Way::Again(idle) => Plan::Send(c.at, c.session.step, idle),
         Way::Out(x) => Plan::Answer(x),
         Way::Refused(x) => Plan::Refused(x),
         Way::IllFormed => Plan::IllFormed,

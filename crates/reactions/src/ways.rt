@@ -3,9 +3,9 @@ ghost use Rattle.std.specs.Prelude.{◌≡◌};
 ghost use Rattle.session.specs.Steps.{op_of};
 ghost use Rattle.reactions.specs.Reactions.{way_of, reported, idling, waiting, decides, decided_by, wait_way, good_way, failed_way, way_after};
 
-use crate::Way;
+use crate::{Standing, Way};
 use checks::limit_of;
-use session::{Answer, Instruction, ReplyRecord, Session};
+use session::{Answer, ReplyRecord, Session};
 use steps::{Kind, Next, Shape};
 
 // A leap leaves out `over` instructions.
@@ -37,11 +37,9 @@ fn reported(code: u8, s: Session) -> u8
 fn idling(idle: u32, limit: u32) -> Way
     ensures { result ≡ idling idle limit }
 {
-    let reads = idle as u64 + 1;
-    if reads < limit as u64 {
-        Way::Again(reads as u32)
-    } else {
-        Way::Out(Answer::Timeout)
+    match idle.checked_add(1) {
+        Some(reads) if reads < limit => Way::Again(reads),
+        _ => Way::Out(Answer::Timeout),
     }
 }
 
@@ -57,10 +55,14 @@ fn waiting(idle: bool, limit: u32, s: Session) -> Way
 }
 
 #[tactic(auto, unfolding(crate::specs::Reactions::decided_by))]
-fn decided(i: Instruction, over: u8, s: Session) -> Way
-    ensures { result ≡ decided_by (op_of i) over s }
+fn decided(s: Standing, over: u8) -> Way
+    ensures { result ≡ decided_by (op_of s.at) over s.session }
 {
-    way_of(verdicts::verdict(i, s), over, s.step as u16 + 1)
+    way_of(
+        verdicts::verdict(s.at, s.session),
+        over,
+        s.session.step as u16 + 1,
+    )
 }
 
 // Does a good reply decide where the call goes, and not how long it waits?
@@ -84,13 +86,13 @@ fn wait_way(kind: Kind, s: Session, bytes: [u8; 6]) -> Way
 }
 
 #[tactic(auto, unfolding(crate::specs::Reactions::good_way))]
-fn good_way(i: Instruction, x: Shape, s: Session, bytes: [u8; 6]) -> Way
-    ensures { result ≡ good_way x.kind (op_of i) x s bytes }
+fn good_way(s: Standing, x: Shape, bytes: [u8; 6]) -> Way
+    ensures { result ≡ good_way x.kind (op_of s.at) x s.session bytes }
 {
     if decides(x.kind) {
-        decided(i, x.over, s)
+        decided(s, x.over)
     } else {
-        wait_way(x.kind, s, bytes)
+        wait_way(x.kind, s.session, bytes)
     }
 }
 
@@ -108,12 +110,12 @@ fn failed_way(kind: Kind, failure: u8, s: Session) -> Way
 
 // Where a session that has kept a reply goes.
 #[tactic(auto, unfolding(crate::specs::Reactions::way_after))]
-pub(crate) fn way_after(i: Instruction, x: Shape, s: Session, reply: ReplyRecord) -> Way
-    ensures { result ≡ way_after x.kind (op_of i) x s reply.failure reply.data }
+pub(crate) fn way_after(s: Standing, x: Shape, reply: ReplyRecord) -> Way
+    ensures { result ≡ way_after x.kind (op_of s.at) x s.session reply.failure reply.data }
 {
     if reply.failure == 0 {
-        good_way(i, x, s, reply.data)
+        good_way(s, x, reply.data)
     } else {
-        failed_way(x.kind, reply.failure, s)
+        failed_way(x.kind, reply.failure, s.session)
     }
 }

@@ -6,7 +6,6 @@ use Rattle.records.specs.declared.runs.Progress.{Progress}
 use mathlib.Core.Bool.{Bool, true, false, cond}
 use mathlib.Core.List.{List, [], ◌∷◌}
 use Prim.Native.Nat.{ℕ, suc, ◌+◌, ◌-◌, ◌≤◌}
-use native.Mathlib.Nat.{add-zero}
 use native.Mathlib.Omega.{arith}
 use native.Mathlib.Numerals.{towards_suc, add-one}
 use lib.Dec.{eqb}
@@ -19,13 +18,6 @@ use Rattle.session.specs.Records.{records_of, step_def}
 use Rattle.records.specs.declared.Counts.{Counts}
 use Rattle.records.specs.Records.{record_in, record_at}
 use Rattle.records.specs.Runs.{Room, one_if, added_to, progress_of, advance, going}
-
--- eight bytes that were read one by one
-pub eight_at : (l : List ℕ) (i b₀ b₁ b₂ b₃ b₄ b₅ b₆ b₇ : ℕ)
-    → b₀ ≡ get_or l (i + 0) 0 → b₁ ≡ get_or l (i + 1) 0 → b₂ ≡ get_or l (i + 2) 0 → b₃ ≡ get_or l (i + 3) 0
-    → b₄ ≡ get_or l (i + 4) 0 → b₅ ≡ get_or l (i + 5) 0 → b₆ ≡ get_or l (i + 6) 0 → b₇ ≡ get_or l (i + 7) 0
-    → b₀ ∷ b₁ ∷ b₂ ∷ b₃ ∷ b₄ ∷ b₅ ∷ b₆ ∷ b₇ ∷ [] ≡ record_at l i
-eight_at l i b₀ b₁ b₂ b₃ b₄ b₅ b₆ b₇ h₀ h₁ h₂ h₃ h₄ h₅ h₆ h₇ = rw (h₀, h₁, h₂, h₃, h₄, h₅, h₆, h₇, add-zero) refl
 
 module _ (l : List ℕ) (i : ℕ) (h : i + 8 ≤ length l) where
   -- the bytes from i on: eight, and the rest
@@ -59,16 +51,6 @@ at_most_one kind wanted = go (eqb kind wanted)
     go : (t : Bool) → cond t 1 0 ≤ 1
     go true = omega arith
     go false = omega arith
-
-pub room_up : (c : Counts) (m n : ℕ) → m ≤ n → Room c m → Room c n
-room_up c m n e h =
-    record {
-      calls = omega (arith, h.calls);
-      answers = omega (arith, h.answers);
-      replies = omega (arith, h.replies);
-      transfers = omega (arith, h.transfers);
-      refused = omega (arith, h.refused);
-    }
 
 room_added : (c d : Counts) (kind : ℕ) (g : Given) (n : ℕ) → Some d ≡ added_to c kind g → Room c n → Room d (n + 1)
 unfolding added_to

@@ -17,7 +17,7 @@ pub enum Record {
 }
 
 // What the records of a list came to: accepted calls, the answers these got, accepted replies, transfers, refusals.
-#[derive(Clone, Copy)]
+#[derive(Clone, Copy, Default)]
 pub struct Counts {
     pub calls: u64,
     pub answers: u64,

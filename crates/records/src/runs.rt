@@ -1,7 +1,7 @@
 // The list run.
 ghost use Rattle.std.specs.Prelude.{◌≡◌, ◌<◌, ◌^◌, length};
 ghost use Rattle.session.specs.History.{run_def};
-ghost use Rattle.records.specs.Runs.{Room, one_if, added_to, advance, starting, going, gone, list_run_of, RunsFresh};
+ghost use Rattle.records.specs.Runs.{Room, added_to, advance, starting, going, gone, list_run_of, RunsFresh};
 
 use crate::one::step;
 use crate::{Counts, ListRun};
@@ -15,38 +15,23 @@ struct Progress {
     counts: Counts,
 }
 
-const NO_COUNTS: Counts = Counts {
-    calls: 0,
-    answers: 0,
-    replies: 0,
-    transfers: 0,
-    refused: 0,
-};
-
-#[tactic(auto, unfolding(crate::specs::Runs::one_if))]
-fn one_if(kind: u8, wanted: u8) -> u64
-    ensures { result ≡ one_if kind wanted }
-{
-    if kind == wanted { 1 } else { 0 }
-}
-
 // The counts after a record of a kind.
-#[tactic(auto, using(crate::proofs::Turns::at_most_one), unfolding(crate::specs::Runs::added_to))]
+#[tactic(auto, using(crate::proofs::Turns::at_most_one), unfolding(crate::specs::Runs::one_if, crate::specs::Runs::added_to))]
 fn added_to(counts: Counts, kind: u8, given: Given) -> Option<Counts>
     requires { Room counts (2 ^ 63) }
     ensures { result ≡ added_to counts kind given }
 {
     match given {
         Given::Sent(_) => Some(Counts {
-            calls: counts.calls + one_if(kind, 1),
-            replies: counts.replies + one_if(kind, 2),
+            calls: counts.calls + u64::from(kind == 1),
+            replies: counts.replies + u64::from(kind == 2),
             transfers: counts.transfers + 1,
             ..counts
         }),
         Given::Answered(_, _) => Some(Counts {
-            calls: counts.calls + one_if(kind, 1),
+            calls: counts.calls + u64::from(kind == 1),
             answers: counts.answers + 1,
-            replies: counts.replies + one_if(kind, 2),
+            replies: counts.replies + u64::from(kind == 2),
             ..counts
         }),
         Given::Refused(_) => Some(Counts {
@@ -77,7 +62,7 @@ fn go(s: Session, records: &[[u8; 8]]) -> Option<Progress>
 {
     let mut p = Progress {
         session: s,
-        counts: NO_COUNTS,
+        counts: Counts::default(),
     };
     for r in records {
         p = advance(p, *r)?;
@@ -114,7 +99,7 @@ pub fn run(s: Session, bytes: &[u8]) -> ListRun
         Err(answer) => ListRun {
             answer,
             session: s,
-            counts: NO_COUNTS,
+            counts: Counts::default(),
         },
     }
 }

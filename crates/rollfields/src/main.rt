@@ -1,9 +1,9 @@
 // Reads records from standard input into a fresh session, and writes the driver's fields after each.
 #![tactic(auto)]
 
-use blocks::Show;
+use blocks::Fields;
 use std::io;
 
 fn main(rt: HostRuntime) -> io::Result<()> {
-    console::run(&rt, Show::Fields)
+    console::run::<Fields>(&rt)
 }

@@ -1,9 +1,9 @@
 // Reads records from standard input into a fresh session, and writes what each gives: a transfer or an answer.
 #![tactic(auto)]
 
-use blocks::Show;
+use blocks::Outcomes;
 use std::io;
 
 fn main(rt: HostRuntime) -> io::Result<()> {
-    console::run(&rt, Show::Outcomes)
+    console::run::<Outcomes>(&rt)
 }

@@ -5,7 +5,7 @@ use Rattle.blocks.proofs.Texts.{printed_fits}
 use Rattle.blocks.proofs.print.Goals as goal
 
 pub returns-then-out-bytes : goal.returns-then-out-bytes
-returns-then-out-bytes c =
+returns-then-out-bytes g c =
     record {
       with_room = λ h. absurd (omega arith);
       without = λ h. record { text = refl; count = refl; session = refl };
@@ -13,7 +13,7 @@ returns-then-out-bytes c =
     }
 
 pub returns : goal.returns
-returns c =
+returns g c =
     record {
       with_room = λ h. c.print_records.ensures;
       without = λ h. absurd (omega arith);

@@ -6,9 +6,9 @@ use Rattle.blocks.proofs.Texts.{kept_session}
 use Rattle.blocks.proofs.print_record.Goals as goal
 
 pub returns : goal.returns
-returns c =
+returns g c =
     let o = c.step-o in
-    let put = c.put_line-count.ensures.with_room (omega (arith, c.requires)) in
+    let put = c.put_line.ensures.with_room (omega (arith, c.requires)) in
     record {
       line = rw o.ensures at put.0;
       short = put.1;

@@ -4,11 +4,11 @@ use Rattle.lines.proofs.Numbers.{byte_digits, word_digits}
 use Rattle.lines.proofs.Putting.{then}
 use Rattle.lines.proofs.cursor.Cursor.number.Goals as goal
 
-pub decimal-requires : goal.decimal-requires
-decimal-requires c = omega (arith, word_digits c.args.n (omega arith))
+pub put_decimal-self-requires : goal.put_decimal-self-requires
+put_decimal-self-requires c = omega (arith, word_digits c.args.n (omega arith))
 
 pub returns-clause-put : goal.returns-clause-put
-returns-clause-put c = then c.byte.ensures.put c.decimal.ensures.put
+returns-clause-put c = then c.byte.ensures.put c.put_decimal-self.ensures
 
 pub returns-clause-upper_bound : goal.returns-clause-upper_bound
 returns-clause-upper_bound c = omega (arith, word_digits c.args.n (omega arith))
