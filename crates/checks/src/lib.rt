@@ -1,4 +1,4 @@
-// Answers 15, 13 and 12: is a session well formed, are arguments in range, does a reply have stray bytes? And small tests that others need too.
+// Answers 15, 13 and 12: is a session well formed, are arguments in range, does a reply have stray bytes? And a small test that others need too.
 #![tactic(auto)]
 
 ghost use Rattle.std.specs.Prelude.{◌≡◌, not, ◌+◌, ◌==◌, leb, drop};

@@ -1,6 +1,6 @@
 -- What a call and a reply give, by their tests.
 use mathlib.Core.Path.{◌≡◌, refl, sym, ◌∙◌, subst}
-use mathlib.Core.Bool.{true, false, cond}
+use mathlib.Core.Bool.{Bool, true, false, cond}
 use mathlib.Core.List.{List}
 use Prim.Native.Nat.{ℕ, zero, suc, ◌≤◌}
 use native.Mathlib.Omega.{arith}
@@ -17,12 +17,13 @@ use Rattle.std.specs.Prelude.{None, Some}
 use Rattle.session.specs.Machine.{refused, broken, react, to_reply, context_of, stray, waits_now, malformed, ill_formed, begun, reply_def}
 use Rattle.calls.specs.Calls.{call_of, program_for, instruction_at}
 use Rattle.calls.proofs.Programs.{program_named}
+use Rattle.steps.specs.declared.Shape.{Shape}
 use Rattle.steps.specs.Steps.{shape_of, settled, most_at}
-use Rattle.checks.specs.Sound.{Sound, stray_in}
+use Rattle.checks.specs.Sound.{Sound, ill_formed_at, stray_in}
 use Rattle.reactions.specs.Reactions.{way_of, plan_of, acting}
 use Rattle.reactions.proofs.Meets.{goes_by}
 use Rattle.driver.specs.Replies.{launching, outstanding_of}
-use Rattle.checks.proofs.Places.{at_step, step_sound, written_fits, arguments_sound, well_formed}
+use Rattle.checks.proofs.Places.{ill_is, at_step, step_sound, written_fits, arguments_sound, well_formed}
 use Rattle.reactions.specs.Standing.{Ready}
 
 -- what the arguments of a call decide
@@ -53,22 +54,25 @@ waits s n = rw (ne_eqb s.code 0 n) refl
 pub waiting_sound : (s : Session) → ill_formed s ≡ false → (s.code ≡ 0 → ⊥) → malformed s ≡ false
 waiting_sound s h n = rw (waits s n) at h
 
-module _ (s : Session) (f : ℕ) (bs : List ℕ) where
-  pub reply_broken : ill_formed s ≡ true → broken s ≡ reply_def s f bs
-  unfolding reply_def
-  reply_broken h = sym (rw h refl)
+pub reply_broken : (s : Session) (f : ℕ) (bs : List ℕ) → ill_formed s ≡ true → broken s ≡ reply_def s f bs
+unfolding reply_def
+reply_broken s f bs h = sym (rw h refl)
 
-  -- 12, and what the call makes of a reply, at the instruction that the session stands at
-  pub reply_on : ill_formed s ≡ false → (s.code ≡ 0 → ⊥)
-      → reply_def s f bs
-      ≡ cond (stray_in (shape_of (op_of (instruction_at s.code s.step))).reads f bs) (refused Answer.StrayByte s)
-      (react (op_of (instruction_at s.code s.step)) (program_of s.code) s (to_reply f bs))
+-- at the instruction that the session stands at: 15, 12, and what the call makes of a reply
+module _ (s : Session) (i : Instruction) (x : Shape) (i_is : i ≡ instruction_at s.code s.step) (x_is : x ≡ shape_of (op_of i)) where
+  pub ill_value : (b : Bool) → b ≡ ill_formed_at x.kind s → ill_formed s ≡ b
+  ill_value b e = sym (ill_is s) ∙ sym (rw (x_is, i_is) at e)
+
+  pub reply_on : (f : ℕ) (bs : List ℕ) (b : Bool) → ill_formed s ≡ false → (s.code ≡ 0 → ⊥) → b ≡ stray_in x.reads f bs
+      → cond b (refused Answer.StrayByte s) (react (op_of i) (program_of s.code) s (to_reply f bs)) ≡ reply_def s f bs
   unfolding reply_def
-  reply_on h n =
-      rw (h, waits s n)
+  reply_on f bs b h n e =
+      sym
+      (rw (h, waits s n)
       (rw (at_step s.code s.step (step_sound s (waiting_sound s h n)))
       (rw (stray_is (send_of (op_of (instruction_at s.code s.step)) (context_of s)) f bs)
-      (rw (reads_of (op_of (instruction_at s.code s.step)) (context_of s)) refl)))
+      (rw (reads_of (op_of (instruction_at s.code s.step)) (context_of s))
+      (rw (e, x_is, i_is) refl)))))
 
 -- what is known where a session waits at an instruction
 pub ready_at : (s : Session) (i : Instruction) → i ≡ instruction_at s.code s.step → malformed s ≡ false → Ready i s

@@ -1,7 +1,8 @@
-// A place in a lent text, and what is put there, one part after the other.
+// A place in a lent text, and what is put there, one part after the other. With `std::io::Cursor` each byte would be an io::Result.
 ghost use Rattle.std.specs.Prelude.{◌≡◌, [], ◌∷◌, ◌+◌, ◌<◌, ◌≤◌, length, take};
 ghost use Rattle.lines.specs.Lines.{space, hex_digit, hex_pair, hex_pairs, decimal};
 ghost use Rattle.lines.specs.Put.{Put};
+ghost use Rattle.lines.specs.Cursor.{HasRoom, Puts};
 
 #[derive(Drop)]
 pub(crate) struct Cursor<'a> {
@@ -33,20 +34,16 @@ fn put_decimal(text: &mut [u8], at: usize, n: u32) -> usize
 
 impl<'a> Cursor<'a> {
     pub(crate) fn byte(&mut self, byte: u8)
-        requires { self.old.at < length self.old.text.now }
-        ensures same_text { self.new.text.ghost_name ≡ self.old.text.ghost_name }
-        ensures same_length { length self.new.text.now ≡ length self.old.text.now }
-        ensures put { Put self.old.text.now self.old.at (byte ∷ []) self.new.text.now self.new.at }
+        requires { HasRoom self.old 1 }
+        ensures { Puts self.old (byte ∷ []) self.new }
     {
         self.text[self.at] = byte;
         self.at += 1;
     }
 
     pub(crate) fn pair(&mut self, byte: u8)
-        requires { self.old.at + 2 ≤ length self.old.text.now }
-        ensures same_text { self.new.text.ghost_name ≡ self.old.text.ghost_name }
-        ensures same_length { length self.new.text.now ≡ length self.old.text.now }
-        ensures put { Put self.old.text.now self.old.at (hex_pair byte) self.new.text.now self.new.at }
+        requires { HasRoom self.old 2 }
+        ensures { Puts self.old (hex_pair byte) self.new }
     {
         self.byte(hex_digit(byte / 16));
         self.byte(hex_digit(byte % 16));
@@ -54,10 +51,8 @@ impl<'a> Cursor<'a> {
 
     // A transfer that no driver made may count more bytes than it has.
     pub(crate) fn pairs(&mut self, written: [u8; 7], count: u8)
-        requires { self.old.at + 14 ≤ length self.old.text.now }
-        ensures same_text { self.new.text.ghost_name ≡ self.old.text.ghost_name }
-        ensures same_length { length self.new.text.now ≡ length self.old.text.now }
-        ensures put { Put self.old.text.now self.old.at (hex_pairs (take count written)) self.new.text.now self.new.at }
+        requires { HasRoom self.old 14 }
+        ensures puts { Puts self.old (hex_pairs (take count written)) self.new }
         ensures upper_bound { self.new.at ≤ self.old.at + 14 }
     {
         let n = count.min(7) as usize;
@@ -68,10 +63,8 @@ impl<'a> Cursor<'a> {
 
     // A number after a space: of ten digits at most, and a byte of three.
     pub(crate) fn number(&mut self, n: u32)
-        requires { self.old.at + 11 ≤ length self.old.text.now }
-        ensures same_text { self.new.text.ghost_name ≡ self.old.text.ghost_name }
-        ensures same_length { length self.new.text.now ≡ length self.old.text.now }
-        ensures put { Put self.old.text.now self.old.at (space ∷ decimal n) self.new.text.now self.new.at }
+        requires { HasRoom self.old 11 }
+        ensures puts { Puts self.old (space ∷ decimal n) self.new }
         ensures upper_bound { self.new.at ≤ self.old.at + 11 }
         ensures of_a_byte { n < 256 → self.new.at ≤ self.old.at + 4 }
     {

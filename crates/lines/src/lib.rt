@@ -1,13 +1,15 @@
 // The lines of text that outcomes and the driver's fields are printed as. A line goes into a lent text from a place on, and the place after it is
 // returned. Where the text has less than 32 bytes from that place on, nothing is put: no line has more.
+// There is no `Display`: std's clauses do not say which bytes a lent slice has after a `write!`.
 #![tactic(auto)]
 
 mod cursor;
 
-ghost use Rattle.std.specs.Prelude.{◌≡◌, ◌+◌, ◌≤◌, length};
+ghost use Rattle.std.specs.Prelude.{◌≡◌, ◌+◌, ◌≤◌};
 ghost use Rattle.session.specs.Bus.{number_of};
 ghost use Rattle.lines.specs.Lines.{transfer_line, answer_line, given_line, fields_line, outcome_line, flag, value_of};
-ghost use Rattle.lines.specs.Put.{Put, PutLine};
+ghost use Rattle.lines.specs.Cursor.{HasRoom, Puts};
+ghost use Rattle.lines.specs.Put.{PutLine};
 
 use crate::cursor::Cursor;
 use checks::has_room;
@@ -58,9 +60,8 @@ fn flag_of(up: bool) -> u8
 
 impl<'a> Cursor<'a> {
     fn transfer(&mut self, t: Transfer)
-        requires { self.old.at + 32 ≤ length self.old.text.now }
-        ensures same_text { self.new.text.ghost_name ≡ self.old.text.ghost_name }
-        ensures put { Put self.old.text.now self.old.at (transfer_line t) self.new.text.now self.new.at }
+        requires { HasRoom self.old 32 }
+        ensures puts { Puts self.old (transfer_line t) self.new }
         ensures upper_bound { self.new.at ≤ self.old.at + 32 }
     {
         self.byte(b'T');
@@ -73,9 +74,8 @@ impl<'a> Cursor<'a> {
     }
 
     fn answer(&mut self, number: u8, value: u32, transfers: u32)
-        requires { self.old.at + 32 ≤ length self.old.text.now }
-        ensures same_text { self.new.text.ghost_name ≡ self.old.text.ghost_name }
-        ensures put { Put self.old.text.now self.old.at (answer_line number value transfers) self.new.text.now self.new.at }
+        requires { HasRoom self.old 32 }
+        ensures puts { Puts self.old (answer_line number value transfers) self.new }
         ensures upper_bound { self.new.at ≤ self.old.at + 32 }
     {
         self.byte(b'A');
@@ -87,9 +87,8 @@ impl<'a> Cursor<'a> {
 
     #[tactic(auto, unfolding(crate::specs::Lines::given_line))]
     fn given(&mut self, given: Given)
-        requires { self.old.at + 32 ≤ length self.old.text.now }
-        ensures same_text { self.new.text.ghost_name ≡ self.old.text.ghost_name }
-        ensures put { Put self.old.text.now self.old.at (given_line given) self.new.text.now self.new.at }
+        requires { HasRoom self.old 32 }
+        ensures puts { Puts self.old (given_line given) self.new }
         ensures upper_bound { self.new.at ≤ self.old.at + 32 }
     {
         match given {
@@ -101,9 +100,8 @@ impl<'a> Cursor<'a> {
     }
 
     fn fields(&mut self, d: Driver)
-        requires { self.old.at + 32 ≤ length self.old.text.now }
-        ensures same_text { self.new.text.ghost_name ≡ self.old.text.ghost_name }
-        ensures put { Put self.old.text.now self.old.at (fields_line d) self.new.text.now self.new.at }
+        requires { HasRoom self.old 32 }
+        ensures puts { Puts self.old (fields_line d) self.new }
         ensures upper_bound { self.new.at ≤ self.old.at + 32 }
     {
         self.byte(b'F');
@@ -115,7 +113,7 @@ impl<'a> Cursor<'a> {
     }
 }
 
-// What a record gave.
+// What a record gave. This line and the next test for room each: a cursor from one test would be lent by an `Option`, in a longer contract.
 pub fn outcome_line(text: &mut [u8], at: usize, o: Outcome) -> usize
     ensures { PutLine text.old at (outcome_line o) text.new result }
 {

@@ -13,7 +13,8 @@ use rows::rows;
 use std::io;
 use std::io::{ErrorKind, Read, Write};
 
-// A record is its kind and 12 bytes. Numbers stand high byte first; a clock count has 16 bits, so that its first two bytes are 0.
+// A record is its kind and 12 bytes; an enum of kinds would be matched a second time. Numbers stand high byte first; a clock count has 16
+// bits, so that its first two bytes are 0.
 fn line(out: &mut impl Write, record: [u8; 13]) -> io::Result<()> {
     match record {
         [0, _, _, a, b, period, ..] => {

@@ -3,7 +3,7 @@ use mathlib.Core.Path.{refl, ap}
 use native.Mathlib.Omega.{arith}
 use lib.ListN.{length}
 use Rattle.lines.proofs.Numbers.{decimal_one, decimal_more, length_more}
-use Rattle.lines.proofs.Putting.{then}
+use Rattle.lines.proofs.Putting.{joined}
 use Rattle.lines.proofs.cursor.+put_decimal.Goals as goal
 
 pub bounds-text-at : goal.bounds-text-at
@@ -29,7 +29,7 @@ returns-then-n-lt10 t c =
 pub returns : goal.returns
 returns t c =
     let n = c.args.n in
-    rw (decimal_more n (omega arith) (omega arith)) (then c.put_decimal-next.ensures (record { puts = refl; ends = refl }))
+    rw (decimal_more n (omega arith) (omega arith)) (joined c.put_decimal-next.ensures (record { puts = refl; ends = refl }))
 
 pub overflow_add-result-2 : goal.overflow_add-result-2
 overflow_add-result-2 t c =

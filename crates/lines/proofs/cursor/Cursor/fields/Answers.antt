@@ -3,11 +3,11 @@ use Rattle.lines.specs.Lines.{fields_line}
 use Rattle.lines.proofs.Putting.{then}
 use Rattle.lines.proofs.cursor.Cursor.fields.Goals as goal
 
-pub returns-clause-put : goal.returns-clause-put
+pub returns-clause-puts : goal.returns-clause-puts
 unfolding fields_line
-returns-clause-put c =
+returns-clause-puts c =
     rw (← c.flag_of.ensures)
-    (then c.byte.ensures.put
-    (then c.number.ensures.put
-    (then c.number-2.ensures.put
-    (then c.number-3.ensures.put (then c.number-4.ensures.put c.byte-2.ensures.put)))))
+    (then c.byte.ensures
+    (then c.number.ensures.puts
+    (then c.number-2.ensures.puts
+    (then c.number-3.ensures.puts (then c.number-4.ensures.puts c.byte-2.ensures)))))
