@@ -3,12 +3,12 @@
 ghost use Rattle.std.specs.Prelude.{◌≡◌, ◌≤◌, ◌+◌, ◌*◌};
 ghost use Rattle.budget.specs.Sums.{dss_of, dss_or_msrc, step_sum, budget_sum, used_sum};
 ghost use Rattle.timing.specs.Registers.{when_on};
-ghost use Rattle.timing.specs.Timeouts.{time_in};
 
 use crate::DssTerm;
-use clock::{Microseconds, Place};
+use clock::Microseconds;
 use timing::{
     SeqStepEnables, TimingRegisters, final_time, msrc_time, pre_time, sequence_step_enables,
+    time_in,
 };
 
 fn when_on(on: bool, n: u64) -> u64
@@ -52,22 +52,15 @@ fn step_sum(on: SeqStepEnables, start: u32, dss: DssTerm, msrc: u32, pre: u32, l
     start as u64 + 960 + tcc + part + before + after
 }
 
-// A time, or 0 where its arithmetic has a place: the place comes first, so that nothing uses it.
-fn time_in(x: Result<Microseconds, Place>) -> u32
-    ensures { result ≡ (time_in x).0 }
-{
-    x.unwrap_or(Microseconds(0)).0
-}
-
 // Call 15's sum and call 9's: two formulas of the source, and not one with a constant.
 #[tactic(auto, unfolding(crate::specs::Sums::budget_sum))]
 pub fn budget_sum(r: TimingRegisters) -> Microseconds
     ensures { result ≡ budget_sum r }
 {
     let on = sequence_step_enables(r.sequence);
-    let msrc = time_in(msrc_time(r));
-    let pre = time_in(pre_time(r));
-    let last = time_in(final_time(r));
+    let msrc = time_in(msrc_time(r)).0;
+    let pre = time_in(pre_time(r)).0;
+    let last = time_in(final_time(r)).0;
     let sum = step_sum(on, 1910, DssTerm::Twice, msrc, pre, last + 550);
     Microseconds(sum as u32)
 }
@@ -77,8 +70,8 @@ pub fn used_sum(r: TimingRegisters, dss: DssTerm) -> Microseconds
     ensures { result ≡ used_sum r dss }
 {
     let on = sequence_step_enables(r.sequence);
-    let msrc = time_in(msrc_time(r));
-    let pre = time_in(pre_time(r));
+    let msrc = time_in(msrc_time(r)).0;
+    let pre = time_in(pre_time(r)).0;
     let sum = step_sum(on, 1320, dss, msrc, pre, 550);
     Microseconds(sum as u32)
 }

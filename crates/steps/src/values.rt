@@ -39,9 +39,7 @@ pub fn timing_in(slot: u8, carried: [u8; 24]) -> TimingRegisters
 pub(crate) fn budget_in(slot: u8, carried: [u8; 24]) -> u32
     ensures { result ≡ budget_in slot carried }
 {
-    budget::measurement_timing_budget(timing_in(slot, carried))
-        .unwrap_or(Microseconds(0))
-        .0
+    timing::time_in(budget::measurement_timing_budget(timing_in(slot, carried))).0
 }
 
 // The budget that is set: a bring-up's own, whose second reads are kept from slot 16 on, or the argument of call 9.

@@ -1,7 +1,7 @@
 // The figures of get_sequence_step_timeouts. A figure whose own arithmetic has a place is 0 here;
 // nothing uses it, since the place comes first.
 ghost use Rattle.std.specs.Prelude.{◌≡◌};
-ghost use Rattle.timing.specs.Timeouts.{timeout_clocks, period_clocks, pre_share, final_clocks};
+ghost use Rattle.timing.specs.Timeouts.{timeout_clocks, period_clocks, time_in, pre_share, final_clocks};
 ghost use Rattle.timing.specs.Timeouts.{msrc_clocks, msrc_time, pre_time, final_time};
 
 use crate::TimingRegisters;
@@ -20,6 +20,13 @@ pub fn period_clocks(byte: u8) -> Pclks
     ensures { result ≡ period_clocks byte }
 {
     clock::decode_vcsel_period(byte).unwrap_or(Pclks(0))
+}
+
+// A time, or 0 where its arithmetic has a place: the place comes first, so that nothing uses it.
+pub fn time_in(x: Result<Microseconds, Place>) -> Microseconds
+    ensures { result ≡ time_in x }
+{
+    x.unwrap_or(Microseconds(0))
 }
 
 // Pre-range's clocks while it is on: what the final range's register counts in.

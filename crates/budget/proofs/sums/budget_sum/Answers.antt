@@ -6,7 +6,7 @@ use Rattle.budget.proofs.sums.budget_sum.Goals as goal
 
 pub overflow_add-last : goal.overflow_add-last
 overflow_add-last c =
-    let h : c.time_in-last.result ≤ 4294967 = rw (c.time_in-last.ensures, c.final_time.ensures) (final_le c.args.r) in
+    let h : c.time_in-last.result.0 ≤ 4294967 = rw (c.time_in-last.ensures, c.final_time.ensures) (final_le c.args.r) in
     record { fits = omega arith }
 
 pub overflow_cast-result : goal.overflow_cast-result
