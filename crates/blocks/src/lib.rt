@@ -16,7 +16,8 @@ pub trait Show {
 
     const SPARE: &'static [u8];
 
-    // The line of a record goes into the text from `at` on; the place after it is returned.
+    // The line of a record goes into the text from `at` on; the place after it is returned. The text is lent, since memory is fixed and lines
+    // follow one another in it.
     fn put_line(text: &mut [u8], at: usize, o: Outcome) -> usize
         ensures { PutLine text.old at (line_of o) text.new result };
 }
@@ -83,7 +84,7 @@ fn print_records<S: Show>(s: Session, bytes: &[u8], out: &mut [u8]) -> Printout
 }
 
 // The lines of the whole records of a block go to the start of the text. Where that has less than four bytes for each byte of the
-// block, nothing is done.
+// block, nothing is done: the test is part of what is promised of every text.
 #[tactic(auto, using(crate::proofs::Texts::printed_fits))]
 pub fn print<S: Show>(s: Session, bytes: &[u8], out: &mut [u8]) -> Printout
     ensures { Prints S.line_of s bytes.now out.old out.new result }

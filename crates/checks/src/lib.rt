@@ -79,6 +79,7 @@ fn idle_at(s: Session, kind: Kind) -> bool
     calls::steps_in(s.code) <= s.step || limit_of(s.code, kind) <= s.idle
 }
 
+// Unlike `not_up` of crate driver it also refuses a bring-up of a sensor that is up.
 fn up_wrong(code: u8, up: bool) -> bool
     ensures { result ≡ up_wrong code up }
 {

@@ -149,6 +149,7 @@ pub fn timeout_mclks_to_microseconds(timeout: Mclks, period: Pclks) -> Result<Mi
     }
 }
 
+// As above, the sum is held against 32 bits before it is divided and cast.
 #[tactic(auto, unfolding(crate::specs::Clock::mclks_of))]
 pub fn timeout_microseconds_to_mclks(
     timeout: Microseconds,

@@ -7,7 +7,8 @@ use std::io;
 use std::io::{ErrorKind, Read, Write};
 
 // The part of a block that was filled, and how that ended. A pipe gives its bytes in pieces of any length: only the end of the input, or
-// a failure, leaves a block short. Nothing says that a signal comes only so often, so the loop counts its turns.
+// a failure, leaves a block short. Nothing says that a signal comes only so often, so the loop counts its turns; the count of bytes is where
+// the next ones go.
 fn fill<'a>(reader: &mut impl Read, block: &'a mut [u8]) -> (&'a [u8], io::Result<()>) {
     let mut count = 0;
     let mut ended = Ok(());

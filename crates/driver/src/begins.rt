@@ -34,7 +34,7 @@ fn begun(s: Session, call: CallRecord) -> Session
     }
 }
 
-// A call that needs a sensor that is up, and has none. (`up_wrong` of crate checks also refuses a bring-up of one that is up.)
+// A call that needs a sensor that is up, and has none.
 fn not_up(code: u8, up: bool) -> bool
     ensures { result ≡ not_up code up }
 {

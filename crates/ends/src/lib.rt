@@ -65,7 +65,8 @@ fn by_rate(rate: Option<u16>) -> Next
     }
 }
 
-// What the arguments of a call decide.
+// What the arguments of a call decide. One arm for each call. The limit of A is of one argument, so it is a clause and no type; the casts
+// fit by it, here and below.
 pub fn entry(call: Call, s: Session) -> Next
     requires { s.a ≤ most_for call }
     ensures { result ≡ settled ((program_for call).entry (context_of s)) }

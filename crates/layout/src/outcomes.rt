@@ -27,6 +27,7 @@ fn answer_bytes(number: u8, value: u32, transfers: u32) -> [u8; 11]
     bytes
 }
 
+// Crate lines has the same match: there it makes text, here bytes.
 #[tactic(auto, unfolding(crate::specs::Layout::given_bytes))]
 fn given_bytes(given: Given) -> [u8; 11]
     ensures { result ≡ given_bytes given }
@@ -39,6 +40,7 @@ fn given_bytes(given: Given) -> [u8; 11]
     }
 }
 
+// What C lends has any length.
 pub fn put_given(lent: &mut [u8], given: Given) -> u8
     ensures lent_after { lent.new ≡ placed outcome_size lent.old (given_bytes given) }
     ensures value { result ≡ placed_number lent.old (given_bytes given) }

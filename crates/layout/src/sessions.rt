@@ -84,7 +84,7 @@ fn bytes_of(s: Session) -> [u8; 52]
     bytes
 }
 
-// A session goes into 52 bytes; no other number of bytes is written.
+// A session goes into 52 bytes; no other number of bytes is written. What C lends has any length.
 pub fn put_session(lent: &mut [u8], s: Session)
     ensures { lent.new ≡ placed session_size lent.old (session_bytes s) }
 {

@@ -1,4 +1,4 @@
-// A place in a lent text, and what is put there, one part after the other. With `std::io::Cursor` each byte would be an io::Result.
+// A place in a lent text, and what is put there, one part after the other. std's `Cursor` over a lent slice does not say what it holds after a write.
 ghost use Rattle.std.specs.Prelude.{◌≡◌, [], ◌∷◌, ◌+◌, ◌<◌, ◌≤◌, length, take};
 ghost use Rattle.lines.specs.Lines.{space, hex_digit, hex_pair, hex_pairs, decimal};
 ghost use Rattle.lines.specs.Put.{Put};

@@ -86,6 +86,7 @@ impl<'a> Cursor<'a> {
         self.byte(b'\n');
     }
 
+    // Crate layout has the same match: there it makes bytes, here text.
     #[tactic(auto, unfolding(crate::specs::Lines::given_line))]
     fn given(&mut self, given: Given)
         requires { HasRoom self.old 32 }

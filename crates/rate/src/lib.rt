@@ -20,7 +20,7 @@ fn whole_part(bits: u32) -> u16
     }
     // 2^16 or more, infinity too
     if 0x477f_ffff < bits {
-        return 65535;
+        return u16::MAX;
     }
     // from 1 up the value is (2^23 + fraction) * 2^(exponent - 150)
     let exponent: u32 = bits >> 23;

@@ -5,7 +5,7 @@ ghost use Rattle.reactions.specs.Reactions.{arrival_at, plan_of};
 use crate::{Course, Plan, Way};
 use session::Session;
 
-// The instruction at a step of the session's call; past the last, the end.
+// The instruction at a step of the session's call; past the last, the end. The casts fit by the test, which is made anyway.
 #[tactic(auto, unfolding(crate::specs::Reactions::arrival_at))]
 fn arrival_at(step: u32, s: Session) -> Plan
     ensures { result ≡ arrival_at step s }
@@ -17,6 +17,7 @@ fn arrival_at(step: u32, s: Session) -> Plan
     }
 }
 
+// A match, one arm for each way.
 #[tactic(auto, unfolding(crate::specs::Reactions::plan_of))]
 pub(crate) fn plan_of(c: Course) -> Plan
     ensures { result ≡ plan_of c.way c.at c.session }

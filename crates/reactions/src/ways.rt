@@ -73,6 +73,7 @@ fn decides(kind: Kind) -> bool
     matches!(kind, Kind::Write | Kind::Read)
 }
 
+// One arm for each kind of wait, with its own test of the byte.
 #[tactic(auto, unfolding(crate::specs::Reactions::wait_way, session::specs::Bus::idle_on))]
 fn wait_way(kind: Kind, s: Session, bytes: [u8; 6]) -> Way
     ensures { result ≡ wait_way kind s bytes }

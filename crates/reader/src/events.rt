@@ -18,6 +18,7 @@ fn event_of(met: Record) -> Event
     }
 }
 
+// This and the next make the same test: thin functions over a slice and a place.
 #[tactic(auto, unfolding(crate::specs::Events::event_at))]
 pub fn event_at(lent: &[u8], at: usize) -> Event
     ensures { result ≡ event_at at lent.now }
@@ -31,6 +32,7 @@ pub fn event_at(lent: &[u8], at: usize) -> Event
     }
 }
 
+// At the end the place stays, and the next event is the end again.
 #[tactic(auto, unfolding(crate::specs::Events::place_after))]
 pub fn place_after(lent: &[u8], at: usize) -> usize
     ensures { result ≡ place_after at lent.now }

@@ -49,6 +49,7 @@ pub fn record_at(bytes: &[u8], at: usize) -> [u8; 8]
     array::from_fn(|k| byte_after(bytes, at, k))
 }
 
+// A match, one arm for each case with what it holds.
 #[tactic(auto, unfolding(session::specs::Records::step_def, crate::specs::Records::meant))]
 fn course_of(s: Session, met: Record) -> Course
     ensures { Reaches result (step_def s (meant met)) }

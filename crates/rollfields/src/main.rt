@@ -1,4 +1,5 @@
 // Reads records from standard input into a fresh session, and writes the driver's fields after each.
+// A program of its own, since each has a name of its own.
 #![tactic(auto)]
 
 use blocks::Fields;

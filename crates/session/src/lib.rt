@@ -6,7 +6,7 @@ pub const WITH_ADDRESS: u8 = 1;
 
 pub const READ_RANGE_MM: u8 = 6;
 
-// The slots of the first and of a bring-up's second budget reads among the carried bytes.
+// The slots of the first and of a bring-up's second budget reads among the carried bytes. Numbers and no enum: public functions take any slot.
 pub const TIMING_SLOT: u8 = 8;
 
 pub const SECOND_SLOT: u8 = 16;

@@ -137,6 +137,7 @@ fn range_shape() -> Shape
     }
 }
 
+// A match, one arm for each instruction; arms that answer alike are one.
 #[tactic(auto, unfolding(crate::specs::Steps::shape_of))]
 pub fn shape_of(i: Instruction) -> Shape
     ensures { result ≡ shape_of (op_of i) }

@@ -29,6 +29,7 @@ fn eight_bytes(slot: u8, carried: [u8; 24]) -> [u8; 8]
 }
 
 // The six budget replies that are carried from a slot on.
+// Slot and bytes are two parameters: the slot is the instruction's, the bytes are the session's.
 pub fn timing_in(slot: u8, carried: [u8; 24]) -> TimingRegisters
     ensures { result ≡ timing_in slot carried }
 {

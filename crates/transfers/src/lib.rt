@@ -30,7 +30,7 @@ fn sent(address: u8, bytes: &[u8], reads: u8) -> Transfer
     }
 }
 
-// A register alone, then `reads` bytes read. Address and register are two numbers here, and not a struct that only these four would take.
+// A register alone, then `reads` bytes read. Address and register are two numbers here, and not a struct that only these five would take.
 fn read(address: u8, register: u8, reads: u8) -> Transfer
     ensures { result ≡ transfer_of address (register ∷ []) reads }
 {
@@ -67,6 +67,7 @@ fn write_map(address: u8, map: [u8; 6]) -> Transfer
     sent(address, &[0xB0, a, b, c, d, e, f], 6)
 }
 
+// 0 is no period: an argument of a record, so a number.
 fn mode(period: u32) -> u8
     ensures { result ≡ cond (eqb period 0) 0x02 0x04 }
 {
@@ -110,7 +111,8 @@ fn read_timing(address: u8, n: u8) -> Transfer
     read(address, timing.register, timing.length)
 }
 
-// The transfer of an instruction, to an address.
+// The transfer of an instruction, to an address. One arm for each. The limit of A is of one argument at one instruction, so it is a clause
+// and no type; the casts fit by it.
 pub fn transfer_to(address: u8, i: Instruction, s: Session) -> Transfer
     requires { s.a ≤ most_at i }
     ensures { result ≡ send_of (op_of i) (context_at address s) }

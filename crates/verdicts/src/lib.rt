@@ -23,7 +23,7 @@ fn identified(identity: u8) -> Next
     }
 }
 
-// Without a period the two timed steps are left out.
+// Without a period the two timed steps are left out. 0 is no period: an argument of a record, so a number.
 fn prepared(period: u32) -> Next
     ensures { result ≡ settled (prepared period) }
 {
@@ -117,6 +117,7 @@ fn steps_written(own: u32) -> Next
     }
 }
 
+// A match, one arm for each instruction; arms that answer alike are one.
 pub fn verdict(i: Instruction, s: Session) -> Next
     ensures { result ≡ settled (verdict_of (op_of i) (context_of s)) }
 {
