@@ -23,7 +23,8 @@ pub(crate) fn row(table: &[Instruction], step: u8) -> Instruction
     looked_up(table, step, Instruction::Nowhere)
 }
 
-// The instruction at a step of tables that follow one another.
+// The instruction at a step of tables that follow one another. Whole tables are passed: `flat_map` and `nth` would go through each
+// instruction, and their proof did not close.
 pub(crate) fn in_order(tables: &[&[Instruction]], step: u8) -> Instruction
     ensures { result ≡ step_of (flat_map (λ t. t.now) tables.now) step }
 {
