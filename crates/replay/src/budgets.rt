@@ -24,6 +24,7 @@ fn first_place(out: &mut impl Write, r: TimingRegisters) -> io::Result<()> {
     write!(out, "-")
 }
 
+// By index: a pattern would name each byte only to print it once, in the same order.
 pub fn measurement_timing_budget(out: &mut impl Write, b: [u8; 8], budget: u32) -> io::Result<()> {
     write!(
         out,
