@@ -5,7 +5,7 @@ use std::fmt::Display;
 use std::io;
 use std::io::Write;
 
-pub fn rows<W: Write, N: Copy + Display + Into<u32>, I: Iterator<Item = N>, F>(
+pub(crate) fn rows<W: Write, N: Copy + Display + Into<u32>, I: Iterator<Item = N>, F>(
     out: &mut W,
     name: &str,
     arguments: I,
