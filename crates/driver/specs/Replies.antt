@@ -1,7 +1,7 @@
 -- Calls and replies, over the plain data of the session's instruction. That they are the machine's is proved.
 use Rattle.std.specs.Prelude.{cond, Option, Some, None}
 use Rattle.session.specs.declared.Transfer.{Transfer}
-use Rattle.session.specs.Claim1.{outstanding as first_sent}
+use Rattle.session.specs.Machine.{outstanding as first_sent}
 use Rattle.session.specs.declared.Session.{Session}
 use Rattle.session.specs.Calls.{program_of}
 use Rattle.session.specs.Machine.{Outcome as Result, waits_now, malformed, context_of, decide}

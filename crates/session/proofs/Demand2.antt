@@ -11,7 +11,7 @@ use Rattle.session.specs.Machine.{Session, context_of, decide, begun, not_up, be
 use Rattle.session.specs.Records.{step_def}
 use Rattle.session.specs.Script.{Raw, play}
 use Rattle.session.specs.RustBringUp.{rust}
-use Rattle.session.specs.Left.{decided, resume}
+use Rattle.session.specs.AnySession.{decided, resume}
 use Rattle.session.specs.Claim2.{Accepted, drive, Demand2}
 use Rattle.session.proofs.Table.{AllBelow, by_code_lem}
 use Rattle.session.proofs.Good.{begun_marked, decide_goes}

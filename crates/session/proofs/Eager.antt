@@ -16,7 +16,7 @@ use Rattle.session.specs.Calls.{ops_of, tuning, programs, program_of}
 use Rattle.session.specs.Script.{Script, done, send, on_reply, wait_loop}
 use Rattle.session.proofs.Facts.{both, clash}
 use Rattle.session.proofs.Table.{of_test}
-use Rattle.session.specs.Left.{keeping, failing, resume}
+use Rattle.session.specs.AnySession.{keeping, failing, resume}
 use Rattle.session.proofs.Once.{Kind, timing, last, other, kind_of, once_by, once_of}
 use Rattle.session.proofs.Tests.{none_known, first_agrees, word_agrees, place_same, verdict_same}
 use Rattle.session.proofs.Later.{later_stays}

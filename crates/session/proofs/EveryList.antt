@@ -10,8 +10,8 @@ use Rattle.session.specs.Calls.{program_of}
 use Rattle.session.specs.Machine.{Session, Outcome, sent, answered, refused, broken, context_of, react, to_reply, stray, reply_def}
 use Rattle.session.specs.Records.{step_def}
 use Rattle.session.specs.Script.{Script, done, send, wait_loop, Raw, data_of, is_clean, cut, Trace, sends, refuses, waits, shown, heard, play}
-use Rattle.session.specs.Left.{failing, resume, resume_in, left}
-use Rattle.session.specs.Claim2.{follows, drive, hears, StandsAt}
+use Rattle.session.specs.AnySession.{failing, resume, resume_in, left, hears, StandsAt}
+use Rattle.session.specs.Claim2.{follows, drive}
 use Rattle.session.proofs.Good.{code_test, Good, good_sound, wait_left, GoodOut, react_goes}
 use Rattle.session.proofs.Cut.{stray_is, react_cut}
 use Rattle.session.proofs.Scripts.{HasReads, first_shown}

@@ -17,6 +17,9 @@ or_false {a} {b} p q = ap (λ t. t || b) p ∙ q
 pub not_of_true : {a : Bool} → a ≡ true → not a ≡ false
 not_of_true p = ap not p
 
+pub not_of_false : {a : Bool} → a ≡ false → not a ≡ true
+not_of_false p = ap not p
+
 -- two branches of one test, seen by two functions
 pub cond_same : {A B C : Type 0} (f : A → C) (g : B → C) (b : Bool) {x y : A} {u v : B} → f x ≡ g u → f y ≡ g v → f (cond b x y) ≡ g (cond b u v)
 cond_same f g true p q = p

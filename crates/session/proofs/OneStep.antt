@@ -11,15 +11,14 @@ use lib.Seq.{drop-drop}
 use Rattle.session.specs.Bus.{Answer, Reply, bad, good, zero_from, clean_from, Condition, wait_limit, idle_on}
 use Rattle.session.specs.Instructions.{stop_answer, Verdict, onward, leap, stop, test, Op, write, read, wait, range, Final, success, failure, send_of, read_wins, report_of}
 use Rattle.session.specs.Calls.{ops_of, program_of}
-use Rattle.session.specs.Machine.{Session, Outcome, sent, context_of, kept_of, sending, giving, conclude, enter, arrive, decide, react, stray, on_ops, idle_wrong, reply_def, begun, begin_def}
+use Rattle.session.specs.Machine.{Session, Outcome, sent, context_of, kept_of, sending, giving, conclude, enter, arrive, decide, react, stray, on_ops, first_transfer_out, idle_wrong, reply_def, begun, begin_def}
 use Rattle.session.specs.Records.{step_def}
 use Rattle.session.specs.Script.{Script, done, wait_loop, cut}
-use Rattle.session.specs.Left.{concluded, decided, failing, resume, resume_in, left_of}
-use Rattle.session.specs.Claim1.{first_transfer_out}
-use Rattle.session.specs.Claim2.{hears, OneMore, StandsAt, BeginsAt, StepByStep}
+use Rattle.session.specs.AnySession.{concluded, decided, failing, resume, resume_in, left_of, hears, OneMore, StandsAt, BeginsAt, StepByStep}
 use Rattle.session.proofs.Facts.{drop_next, untrue}
 use Rattle.session.proofs.Cut.{stray_is, react_cut}
 use Rattle.session.proofs.Strays.{sound_step}
+use Rattle.session.proofs.Refused.{sound_of}
 use Rattle.session.proofs.AcceptedIff.{range_is, ready_ok}
 use Rattle.session.proofs.Scripts.{resume_first, resume_skip}
 
@@ -142,7 +141,9 @@ module _ (s : Session) where
 
 pub step_by_step : (s : Session) (f : ℕ) (bs : List ℕ) → StepByStep s f bs
 unfolding reply_def step_def
-step_by_step s f bs w m c = rw (w, m) (go (drop s.step (ops_of (program_of s.code))) refl (sound_step s m) c)
+step_by_step s f bs u c =
+    let q = sound_of s u in
+    rw (q.0, q.1) (go (drop s.step (ops_of (program_of s.code))) refl (sound_step s q.1) c)
   where
     go : (l : List Op) → drop s.step (ops_of (program_of s.code)) ≡ l → idle_wrong s.code l s.idle ≡ false
         → zero_from (clean_from f (first_transfer_out l (context_of s)).reads) bs ≡ true

@@ -1,26 +1,27 @@
 -- One record meeting one session is refused exactly by 01's table.
 use mathlib.Core.Path.{◌≡◌, refl, sym, ap, subst, ◌∙◌}
+use mathlib.Core.Logic.{◌↔◌}
 use mathlib.Core.Bool.{Bool, true, false, not, ◌||◌, ◌&&◌, cond}
-use mathlib.Core.List.{List, [], ◌∷◌}
+use mathlib.Core.List.{List, [], ◌∷◌, ◌++◌}
 use Prim.Native.Nat.{ℕ, zero, suc, ◌+◌, ◌≤◌}
 use native.Mathlib.Omega.{arith}
 use native.Mathlib.Nat.{add-zero, zero-add, add-suc, suc-add}
 use lib.Dec.{eqb, ltb, leb}
 use lib.ListN.{length, get_or, drop}
-use borrow.Author.Tests.{ne_eqb, leb-true, le-leb, lt-leb}
+use borrow.Author.Tests.{ne_eqb, eqb-false, not-true, leb-true, le-leb, lt-leb}
 use Rattle.session.specs.Bus.{Answer, wait_limit, zero_from, clean_from}
 use Rattle.session.specs.Instructions.{Op, write, read, wait, range, send_of}
 use Rattle.session.specs.Steps.{slot}
 use Rattle.session.specs.Calls.{Program, ops_of, tuning, nothing, programs, program_of, ceilings, ceiling_of, arguments_ok}
 use Rattle.session.specs.Machine.{Session, Outcome, sent, answered, refused, broken, context_of, decide, react, to_reply, stray, on_ops, idle_wrong, up_wrong, malformed, waits_now, ill_formed, reply_def, begun, not_up, begin_def, other_def}
 use Rattle.session.specs.Records.{Record, call, reply, other, step_def}
-use Rattle.session.specs.Refusals.{ranges, in_range, limit_rows, length_rows, ceiling_rows, busy, idle_bad, for_record, refusals, first_match}
-use Rattle.session.specs.Claim1.{Single, one_refusal, refusal_number, Accepts}
-use Rattle.session.proofs.Facts.{clash, untrue}
+use Rattle.session.specs.Refusals.{ranges, in_range, limit_rows, length_rows, ceiling_rows, busy, idle_bad, of_session, for_record, refusals, first_match, Underway}
+use Rattle.session.specs.Claim1.{Single, one_refusal, refusal_number, Refused12, Accepts}
+use Rattle.session.proofs.Facts.{clash, untrue, not_of_false}
 use Rattle.session.proofs.Good.{limit_positive}
 use Rattle.session.proofs.Cut.{stray_is}
 use Rattle.session.proofs.Accepts.{decide_accepts, react_accepts}
-use Rattle.session.proofs.Strays.{sound_step}
+use Rattle.session.proofs.Strays.{sound_step, refused_where}
 use Rattle.session.proofs.AcceptedIff.{range_is}
 use Rattle.session.proofs.Single.{single}
 
@@ -152,11 +153,38 @@ seven true false false false false false true c₇ xs = refl
 seven true false false false false false false true xs = refl
 seven true false false false false false false false xs = refl
 
-table_is : (s : Session) (r : Record) → first_match (refusals s r) ≡ cond (ill_formed s) 15 (first_match (for_record s r))
-table_is s r =
+rows_are : (s : Session) (xs : List (Bool × ℕ)) → first_match (of_session s ++ xs) ≡ cond (ill_formed s) 15 (first_match xs)
+rows_are s xs =
     seven (busy s) (not (in_range s.code s.a s.b ranges)) (eqb s.code 1 && s.driver.up) (not (eqb s.code 1) && not s.driver.up)
-    (leb (length (get_or limit_rows s.code [])) s.step) (idle_bad (get_or (get_or limit_rows s.code []) s.step 0) s.idle) (eqb s.transfers 0) (ltb (get_or ceiling_rows s.code 0) s.transfers) (for_record s r)
-    ∙ ap (λ t. cond (busy s && t) 15 (first_match (for_record s r))) (sym (malformed_is s))
+    (leb (length (get_or limit_rows s.code [])) s.step) (idle_bad (get_or (get_or limit_rows s.code []) s.step 0) s.idle) (eqb s.transfers 0) (ltb (get_or ceiling_rows s.code 0) s.transfers) xs
+    ∙ ap (λ t. cond (busy s && t) 15 (first_match xs)) (sym (malformed_is s))
+
+table_is : (s : Session) (r : Record) → first_match (refusals s r) ≡ cond (ill_formed s) 15 (first_match (for_record s r))
+table_is s r = rows_are s (for_record s r)
+
+-- a call that waits in a session that 15 lets pass
+pub sound_of : (s : Session) → Underway s → (waits_now s ≡ true) × (malformed s ≡ false)
+sound_of s u = (u.waiting, go (malformed s) refl)
+  where
+    go : (m : Bool) → malformed s ≡ m → malformed s ≡ false
+    go false e = e
+    go true e = let z : ◌≡◌ {A = ℕ} 15 0 = sym (rows_are s [] ∙ rw (u.waiting, e)) ∙ u.sound in absurd (omega (arith, z))
+
+underway_of : (s : Session) → waits_now s ≡ true → malformed s ≡ false → Underway s
+underway_of s w m = record { waiting = w; sound = rows_are s [] ∙ rw (w, m) }
+
+pub refused_12 : (s : Session) (f : ℕ) (bs : List ℕ) → (step_def s (reply f bs) ≡ refused Answer.StrayByte s) ↔ Refused12 s f bs
+refused_12 s f bs = (there, back)
+  where
+    there : step_def s (reply f bs) ≡ refused Answer.StrayByte s → Refused12 s f bs
+    there e =
+        let q = (refused_where s f bs).0 e in
+        record { underway = underway_of s (not_of_false (ne_eqb s.code 0 q.waiting)) q.sound; stray = q.stray }
+
+    back : Refused12 s f bs → step_def s (reply f bs) ≡ refused Answer.StrayByte s
+    back r =
+        let q = sound_of s r.underway in
+        (refused_where s f bs).1 (record { waiting = eqb-false s.code 0 (not-true (eqb s.code 0) q.0); sound = q.1; stray = r.stray })
 
 accepted_0 : (o : Outcome) → Accepts o → refusal_number o ≡ 0
 accepted_0 (sent t s) h = refl

@@ -16,7 +16,7 @@ use Rattle.session.specs.Script.{Script}
 use Rattle.session.specs.RustFn.{Fn, ◌>>◌, Ok, write_byte}
 use Rattle.session.specs.RustClocks.{limit_contained}
 use Rattle.session.specs.RustBringUp.{enable_ref_spads, load_tuning_settings, calls, rust}
-use Rattle.session.specs.Left.{decided, resume}
+use Rattle.session.specs.AnySession.{decided, resume}
 use Rattle.session.proofs.Once.{once_of}
 use Rattle.session.proofs.Formulas.{period_is}
 use Rattle.session.proofs.Bits.{or_is, and_is, no_interrupt_is, start_bit_is, spad_count_is, aperture_is, raw_is, mm_is}

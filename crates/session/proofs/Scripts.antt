@@ -8,7 +8,7 @@ use lib.ListN.{drop}
 use Rattle.session.specs.Bus.{Answer, wait_limit, idle_on}
 use Rattle.session.specs.Instructions.{Context, Op, write, read, wait, range, Final, send_of}
 use Rattle.session.specs.Script.{done, wait_loop, Trace, sends, shown}
-use Rattle.session.specs.Left.{failing, resume, resume_in}
+use Rattle.session.specs.AnySession.{failing, resume, resume_in}
 
 pub resume_first : (fin : Context → Final) (op : Op) (rest : List Op) (c : Context) → resume_in fin 0 op rest c ≡ resume fin zero (op ∷ rest) c
 resume_first fin (write reg bytes len over after) rest c = refl

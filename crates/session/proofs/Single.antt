@@ -10,9 +10,9 @@ use Rattle.session.specs.Bus.{Answer, Reply, bad, good, wait_limit, idle_on, num
 use Rattle.session.specs.Instructions.{Stop, declines, wrong_device, wrong_address, wrong_argument, unready, panics, stop_answer, Verdict, onward, leap, stop, test, Op, write, read, wait, range, Final, success, failure, send_of, read_wins, report_of}
 use Rattle.session.specs.Steps.{slot}
 use Rattle.session.specs.Calls.{ops_of, program_of, arguments_ok}
-use Rattle.session.specs.Machine.{Session, context_of, kept_of, sending, giving, conclude, enter, arrive, decide, react, to_reply, stray, on_ops, waits_now, ill_formed, reply_def, begun, not_up, begin_def, other_def}
+use Rattle.session.specs.Machine.{Session, context_of, kept_of, sending, giving, conclude, enter, arrive, decide, react, to_reply, stray, on_ops, first_transfer_out, waits_now, ill_formed, reply_def, begun, not_up, begin_def, other_def}
 use Rattle.session.specs.Records.{Record, call, reply, other, step_def}
-use Rattle.session.specs.Claim1.{first_transfer_out, Single, one_transfer, one_answer, one_refusal, ill_formed_session}
+use Rattle.session.specs.Claim1.{Single, one_transfer, one_answer, one_refusal, ill_formed_session}
 use Rattle.session.proofs.Facts.{cond_case}
 use Rattle.session.proofs.Sized.{sent_to, on_the_bus}
 

@@ -13,8 +13,8 @@ use Rattle.session.specs.Records.{step_def, reply}
 use Rattle.session.specs.Bus.{Transfer, Answer, byte, zero_from}
 use Rattle.session.specs.Instructions.{Op, send_of}
 use Rattle.session.specs.Calls.{ops_of, program_of, ceiling_of, arguments_ok}
-use Rattle.session.specs.Machine.{Session, refused, context_of, to_reply, stray, on_ops, idle_wrong, up_wrong, malformed, waits_now, ill_formed, reply_def}
-use Rattle.session.specs.Claim1.{first_transfer_out, refusal_number, Stray, past_length, beside_failure, Refused12, Accepts}
+use Rattle.session.specs.Machine.{Session, refused, context_of, to_reply, stray, on_ops, first_transfer_out, outstanding, idle_wrong, up_wrong, malformed, waits_now, ill_formed, reply_def}
+use Rattle.session.specs.Claim1.{refusal_number, Stray, past_length, beside_failure, Accepts}
 use Rattle.session.proofs.Facts.{cond_case, both, clash, untrue, or_parts}
 use Rattle.session.proofs.Cut.{stray_is}
 use Rattle.session.proofs.Accepts.{react_accepts}
@@ -62,22 +62,28 @@ sound_step s h =
     let d : Bool = eqb s.transfers 0 in
     (or_parts ab c (or_parts (ab || c) d (or_parts ((ab || c) || d) (ltb (ceiling_of s.code) s.transfers) h).0).0).1
 
-pub refused_12 : (s : Session) (f : ℕ) (bs : List ℕ) → (step_def s (reply f bs) ≡ refused Answer.StrayByte s) ↔ Refused12 s f bs
+-- by the machine's own test of the session
+pub record Strays (s : Session) (f : ℕ) (bs : List ℕ) : Type 0 where
+  pub waiting : s.code ≡ 0 → ⊥
+  pub sound : malformed s ≡ false
+  pub stray : Stray (outstanding s).reads f bs
+
+pub refused_where : (s : Session) (f : ℕ) (bs : List ℕ) → (step_def s (reply f bs) ≡ refused Answer.StrayByte s) ↔ Strays s f bs
 unfolding reply_def step_def
-refused_12 s f bs = (there, back)
+refused_where s f bs = (there, back)
   where
-    at : (l : List Op) → ((s.code ≡ 0) → ⊥) → malformed s ≡ false → drop s.step (ops_of (program_of s.code)) ≡ l → on_ops l (program_of s.code) s f bs ≡ refused Answer.StrayByte s → Refused12 s f bs
+    at : (l : List Op) → ((s.code ≡ 0) → ⊥) → malformed s ≡ false → drop s.step (ops_of (program_of s.code)) ≡ l → on_ops l (program_of s.code) s f bs ≡ refused Answer.StrayByte s → Strays s f bs
     at [] w m e = λ q. clash cc
     at (op ∷ rest) w m e =
-        cond_case (λ o. o ≡ refused Answer.StrayByte s → Refused12 s f bs) (stray (send_of op (context_of s)) f bs)
+        cond_case (λ o. o ≡ refused Answer.StrayByte s → Strays s f bs) (stray (send_of op (context_of s)) f bs)
         (λ h q. record { waiting = w; sound = m; stray = rw e (strays (send_of op (context_of s)) f bs h) })
         (λ h q. absurd (subst Accepts q (react_accepts op (program_of s.code) s (to_reply f bs))))
 
-    there : step_def s (reply f bs) ≡ refused Answer.StrayByte s → Refused12 s f bs
+    there : step_def s (reply f bs) ≡ refused Answer.StrayByte s → Strays s f bs
     there =
-        cond_case (λ o. o ≡ refused Answer.StrayByte s → Refused12 s f bs) (ill_formed s)
+        cond_case (λ o. o ≡ refused Answer.StrayByte s → Strays s f bs) (ill_formed s)
         (λ m q. clash cc)
-        (λ m. cond_case (λ o. o ≡ refused Answer.StrayByte s → Refused12 s f bs) (not (waits_now s))
+        (λ m. cond_case (λ o. o ≡ refused Answer.StrayByte s → Strays s f bs) (not (waits_now s))
         (λ e q. let z : ◌≡◌ {A = ℕ} 11 12 = ap refusal_number q in absurd (omega arith))
         (λ e.
         let w : waits_now s ≡ true = not-false (waits_now s) e in
@@ -87,7 +93,7 @@ refused_12 s f bs = (there, back)
     on [] i x = untrue (sym i)
     on (op ∷ rest) i x = rw (is_stray (send_of op (context_of s)) f bs x)
 
-    back : Refused12 s f bs → step_def s (reply f bs) ≡ refused Answer.StrayByte s
+    back : Strays s f bs → step_def s (reply f bs) ≡ refused Answer.StrayByte s
     back r =
         rw (ne_eqb s.code 0 r.waiting, r.sound)
         (on (drop s.step (ops_of (program_of s.code))) (sound_step s r.sound) r.stray)

@@ -23,7 +23,7 @@ use Rattle.session.specs.Instructions.{Context, panics, Verdict, onward, leap, s
 use Rattle.session.specs.Steps.{by_place, by_word}
 use Rattle.session.specs.Script.{Script}
 use Rattle.session.proofs.Facts.{cond_same, clash}
-use Rattle.session.specs.Left.{decided}
+use Rattle.session.specs.AnySession.{decided}
 use Rattle.session.proofs.Once.{none_is, places_at, by_places, final_macro, spare_sum, word_tests}
 
 -- with no reply nothing is known

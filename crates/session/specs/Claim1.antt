@@ -1,22 +1,12 @@
 -- Demand 1: "One transfer or numbered answer, fixed by document 01, meets every session, record and slice of records;
 -- a refusal makes no transfer and changes neither the session nor any lent byte."
-use Rattle.std.specs.Prelude.{◌≡◌, Bool, true, false, ◌||◌, cond, List, [], ◌∷◌, ℕ, ◌%◌, ◌≤◌, eqb, length, drop}
+use Rattle.std.specs.Prelude.{◌≡◌, Bool, true, false, ◌||◌, cond, List, [], ◌∷◌, ℕ, ◌%◌, ◌≤◌, eqb, length}
 use Rattle.std.proofs.Math.Option.{Option, some, none}
-use Rattle.session.specs.Bus.{Transfer, Answer, byte, transfer_of, bytes_of, zero_from, number_of, values_of, absent}
-use Rattle.session.specs.Instructions.{Context, Op, send_of}
-use Rattle.session.specs.Calls.{ops_of, program_of}
-use Rattle.session.specs.Machine.{Session, Outcome, sent, answered, refused, broken, resting, context_of, malformed, ill_formed}
+use Rattle.session.specs.Bus.{Transfer, Answer, byte, bytes_of, zero_from, number_of, values_of, absent}
+use Rattle.session.specs.Machine.{Session, Outcome, sent, answered, refused, broken, resting, outstanding, ill_formed}
 use Rattle.session.specs.Records.{Record, call, records_of, step_def}
-use Rattle.session.specs.Refusals.{refusals, first_match, at_once, first_answer}
+use Rattle.session.specs.Refusals.{refusals, first_match, Underway, at_once, first_answer}
 use Rattle.session.specs.History.{Entry, calls_in, answers_in, replies_in, transfers_in, refused_in, Run, session_after, Genuine, in_order}
-
--- the transfer that a waiting session has out
-abbrev pub first_transfer_out : List Op → Context → Transfer
-first_transfer_out [] c = transfer_of 0 [] 0
-first_transfer_out (op ∷ ops) c = send_of op c
-
-abbrev pub outstanding : Session → Transfer
-outstanding s = first_transfer_out (drop s.step (ops_of (program_of s.code))) (context_of s)
 
 -- 01: "A transfer has an address, 1..7 written bytes and a read length 0, 1, 2 or 6."
 abbrev pub is_length : ℕ → Bool
@@ -84,8 +74,7 @@ pub data Stray (reads f : ℕ) (bs : List ℕ) : Type 0 where
 
 -- a reply that is refused with answer 12
 pub record Refused12 (s : Session) (f : ℕ) (bs : List ℕ) : Type 0 where
-  pub waiting : s.code ≡ 0 → ⊥
-  pub sound : malformed s ≡ false
+  pub underway : Underway s
   pub stray : Stray (outstanding s).reads f bs
 
 -- a bring-up that ends otherwise than Done leaves no fields, also one that was handed in with some

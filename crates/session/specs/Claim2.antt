@@ -8,9 +8,7 @@ use Rattle.session.specs.Records.{call, reply, step_def}
 use Rattle.session.specs.Refusals.{ranges, in_range}
 use Rattle.session.specs.Script.{Script, done, send, Raw, data_of, cut, Trace, sends, refuses, waits, ends, play}
 use Rattle.session.specs.RustBringUp.{rust}
-use Rattle.session.specs.Left.{decided, resume, left}
 use Rattle.session.specs.History.{session_of}
-use Rattle.session.specs.Claim1.{outstanding}
 
 -- the session is up, or the call is a bring-up
 pub data Ready (s : Session) : ℕ → Type 0 where
@@ -43,39 +41,3 @@ drive rs o = seen o (follows rs (session_of o))
 -- A panic of the Rust is its answer 8 with the place
 abbrev pub Demand2 : Session → ℕ → ℕ → ℕ → List Raw → Type 0
 Demand2 s code a b replies = drive replies (step_def s (call code a b)) ≡ play (rust s.driver code a b) replies
-
--- a script that has its transfer out hears a reply
-abbrev pub hears : Script → Reply → Script
-hears (done a d) r = done a d
-hears (send t k) r = k r
-
--- a transfer more of the same call
-pub record OneMore (s s' : Session) : Type 0 where
-  pub driver : s'.driver ≡ s.driver
-  pub code : s'.code ≡ s.code
-  pub a : s'.a ≡ s.a
-  pub b : s'.b ≡ s.b
-  pub transfers : s'.transfers ≡ s.transfers + 1
-
--- an outcome stands where a script stands: out with a transfer of the same call, or ended with the transfers counted
-abbrev pub StandsAt : Session → Outcome → Script → Type 0
-StandsAt s (sent t s') x = (x ≡ left s') × OneMore s s'
-StandsAt s (answered a n s') x = (x ≡ done a s'.driver) × (n ≡ s.transfers)
-StandsAt s (refused a s') x = ⊥
-StandsAt s (broken s') x = ⊥
-
--- an accepted call, from any session: its own code and arguments, no transfer made yet, and the script of its instructions from the start
-abbrev pub BeginsAt : Session → ℕ → ℕ → ℕ → Type 0
-BeginsAt s code a b =
-    Accepted s code a b
-    → StandsAt (begun s code a b) (step_def s (call code a b))
-    (decided ((program_of code).entry (context_of (begun s code a b))) 0 (context_of (begun s code a b)) (λ n. resume (program_of code).final n (ops_of (program_of code)) (context_of (begun s code a b))))
-
--- a waiting session that 15 lets pass, also one that no run leaves, stands in the script of its instructions:
--- a reply that is not refused takes both one step on
-abbrev pub StepByStep : Session → ℕ → List ℕ → Type 0
-StepByStep s f bs =
-    waits_now s ≡ true
-    → malformed s ≡ false
-    → zero_from (clean_from f (outstanding s).reads) bs ≡ true
-    → StandsAt s (step_def s (reply f bs)) (hears (left s) (cut (outstanding s) f bs))

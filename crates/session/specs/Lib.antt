@@ -14,14 +14,14 @@ pub mod RustFn
 pub mod RustClocks
 pub mod RustCalls
 pub mod RustBringUp
--- what is left of a waiting call
-pub mod Left
 -- runs and their history
 pub mod History
 -- the three demands
 pub mod Claim1
 pub mod Claim2
 pub mod Claim3
+-- what holds of every session that is handed in
+pub mod AnySession
 -- waits over any limit, and values
 pub mod AnyLimit
 pub mod Bench

@@ -1,7 +1,7 @@
 -- The session, and what each call and each reply gives it: a transfer, an answer or a refusal. 01's table, in its order.
 use Rattle.std.specs.Prelude.{Bool, true, false, not, ◌||◌, ◌&&◌, cond, List, [], ◌∷◌, ℕ, zero, suc, ◌+◌, eqb, ltb, leb, drop, replicate}
 pub use Rattle.session.specs.declared.Session.{Session}
-use Rattle.session.specs.Bus.{Driver, Transfer, Answer, Reply, bad, good, Condition, wait_limit, idle_on, absent}
+use Rattle.session.specs.Bus.{Driver, Transfer, transfer_of, Answer, Reply, bad, good, Condition, wait_limit, idle_on, absent}
 use Rattle.session.specs.Instructions.{Context, stop_answer, Verdict, onward, leap, stop, test, Op, write, read, wait, range, Final, success, failure, send_of, kept_bytes, kept_failure, kept_budget, read_wins, report_of}
 use Rattle.session.specs.Steps.{slot}
 use Rattle.session.specs.Calls.{Program, ops_of, program_of, ceiling_of, arguments_ok}
@@ -141,6 +141,14 @@ stray t (suc e) bs = not (all_zero bs)
 abbrev pub on_ops : List Op → Program → Session → ℕ → List ℕ → Outcome
 on_ops [] p s f bs = broken s
 on_ops (op ∷ rest) p s f bs = cond (stray (send_of op (context_of s)) f bs) (refused Answer.StrayByte s) (react op p s (to_reply f bs))
+
+-- the transfer that a waiting session has out
+abbrev pub first_transfer_out : List Op → Context → Transfer
+first_transfer_out [] c = transfer_of 0 [] 0
+first_transfer_out (op ∷ ops) c = send_of op c
+
+abbrev pub outstanding : Session → Transfer
+outstanding s = first_transfer_out (drop s.step (ops_of (program_of s.code))) (context_of s)
 
 -- 01's answer 15, "while a call waits": "code or arguments that 13 would refuse, call 1 marked up or another not up, step not of its call,
 -- idle reads at or over the wait's limit or not 0 outside a wait, transfers 0 or over the ceiling"

@@ -1,6 +1,6 @@
 -- 01's table of refusals, in plain numbers: conditions with their answers, and the first that holds decides.
 -- Its ranges, limits, lengths and ceilings are written down again here: with the machine it shares only what a session and a record are.
-use Rattle.std.specs.Prelude.{Bool, true, false, not, ◌||◌, ◌&&◌, cond, List, [], ◌∷◌, ◌++◌, ℕ, eqb, ltb, leb, length, get_or, replicate}
+use Rattle.std.specs.Prelude.{◌≡◌, Bool, true, false, not, ◌||◌, ◌&&◌, cond, List, [], ◌∷◌, ◌++◌, ℕ, eqb, ltb, leb, length, get_or, replicate}
 use Rattle.std.proofs.Math.Option.{Option, some, none}
 use Rattle.std.specs.Float.{binary32}
 use Rattle.std.specs.Float.Ieee.{round, of_bits, le}
@@ -86,6 +86,18 @@ busy s = not (eqb s.code 0)
 abbrev pub idle_bad : ℕ → ℕ → Bool
 idle_bad limit idle = cond (eqb limit 0) (not (eqb idle 0)) (leb limit idle)
 
+-- the session itself, while a call waits
+abbrev pub of_session : Session → List (Bool × ℕ)
+of_session s =
+    (busy s && not (in_range s.code s.a s.b ranges), 15)
+    ∷ (busy s && (eqb s.code 1 && s.driver.up), 15)
+    ∷ (busy s && (not (eqb s.code 1) && not s.driver.up), 15)
+    ∷ (busy s && leb (length (get_or limit_rows s.code [])) s.step, 15)
+    ∷ (busy s && idle_bad (get_or (get_or limit_rows s.code []) s.step 0) s.idle, 15)
+    ∷ (busy s && eqb s.transfers 0, 15)
+    ∷ (busy s && ltb (get_or ceiling_rows s.code 0) s.transfers, 15)
+    ∷ []
+
 -- what the record itself meets
 abbrev pub for_record : Session → Record → List (Bool × ℕ)
 for_record s (call code a b) =
@@ -100,20 +112,17 @@ for_record s (reply f bs) =
 for_record s other = (true, 13) ∷ []
 
 abbrev pub refusals : Session → Record → List (Bool × ℕ)
-refusals s r =
-    (busy s && not (in_range s.code s.a s.b ranges), 15)
-    ∷ (busy s && (eqb s.code 1 && s.driver.up), 15)
-    ∷ (busy s && (not (eqb s.code 1) && not s.driver.up), 15)
-    ∷ (busy s && leb (length (get_or limit_rows s.code [])) s.step, 15)
-    ∷ (busy s && idle_bad (get_or (get_or limit_rows s.code []) s.step 0) s.idle, 15)
-    ∷ (busy s && eqb s.transfers 0, 15)
-    ∷ (busy s && ltb (get_or ceiling_rows s.code 0) s.transfers, 15)
-    ∷ for_record s r
+refusals s r = of_session s ++ for_record s r
 
 -- 0 where no condition holds: the record is accepted
 abbrev pub first_match : List (Bool × ℕ) → ℕ
 first_match [] = 0
 first_match (x ∷ xs) = cond x.0 x.1 (first_match xs)
+
+-- a call waits, and nothing in the table is against its session: a reply is judged by its own bytes
+pub record Underway (s : Session) : Type 0 where
+  pub waiting : busy s ≡ true
+  pub sound : first_match (of_session s) ≡ 0
 
 -- 01: "Answers 5, 6 and the first 1 belong to an accepted call that makes no transfer": condition, answer, value
 abbrev pub at_once : ℕ → ℕ → ℕ → List (Bool × ℕ × ℕ)

@@ -136,6 +136,25 @@ load_tuning_settings = do
   write_byte 0x80 0x00
   Ok tt
 
+-- init_hardware from its two calibrations on
+abbrev pub calibration : Fn Unit
+calibration = do
+  write_byte SYSTEM_SEQUENCE_CONFIG 0x01
+  perform_single_ref_calibration 0x40
+  write_byte SYSTEM_SEQUENCE_CONFIG 0x02
+  perform_single_ref_calibration 0x00
+  write_byte SYSTEM_SEQUENCE_CONFIG 0xE8
+  Ok tt
+
+-- init_hardware from its first budget read on
+abbrev pub budget_and_calibration : Fn Unit
+budget_and_calibration = do
+  mtbm ← get_measurement_timing_budget
+  set_self_budget mtbm
+  write_byte SYSTEM_SEQUENCE_CONFIG 0xE8
+  set_measurement_timing_budget mtbm
+  calibration
+
 -- lib.rs 399, init_hardware: `power_on` does nothing, and `io_mode2v8` is always true. 0x3E800000 is 0.25
 abbrev pub init_hardware : Fn Unit
 init_hardware = do
@@ -164,16 +183,7 @@ init_hardware = do
   write_6bytes GLOBAL_CONFIG_SPAD_ENABLES_REF_0 (enable_ref_spads spad.0 spad.1 ref_spad_map)
   load_tuning_settings
   set_gpio_config 0 0
-  mtbm ← get_measurement_timing_budget
-  set_self_budget mtbm
-  write_byte SYSTEM_SEQUENCE_CONFIG 0xE8
-  set_measurement_timing_budget mtbm
-  write_byte SYSTEM_SEQUENCE_CONFIG 0x01
-  perform_single_ref_calibration 0x40
-  write_byte SYSTEM_SEQUENCE_CONFIG 0x02
-  perform_single_ref_calibration 0x00
-  write_byte SYSTEM_SEQUENCE_CONFIG 0xE8
-  Ok tt
+  budget_and_calibration
 
 -- lib.rs 59: with_address
 abbrev pub with_address : Fn Unit
@@ -192,10 +202,11 @@ abbrev pub method : {A : Type 0} → (A → Answer) → Driver → Fn A → Scri
 method value d m = m (chip_of d) (λ r c. on_result r (λ a. done (value a) (driver_from d.up c)) (λ e. done e (driver_from d.up c)))
 
 -- a driver is there once the constructor returns `Ok`
+abbrev pub constructed : Chip → Fn Unit → Script
+constructed chip m = m chip (λ r c. on_result r (λ u. done (Answer.Done 0) (driver_from true c)) (λ e. done e absent))
+
 abbrev pub constructor : ℕ → Fn Unit → Script
-constructor address m =
-    m (record { address = address; stop_variable = 0; measurement_timing_budget_microseconds = 0 })
-    (λ r c. on_result r (λ u. done (Answer.Done 0) (driver_from true c)) (λ e. done e absent))
+constructor address m = constructed (record { address = address; stop_variable = 0; measurement_timing_budget_microseconds = 0 }) m
 
 -- lib.rs: new, with DEFAULT_ADDRESS
 abbrev pub new : Script

@@ -197,25 +197,26 @@ get_measurement_timing_budget = do
   timeouts ← get_sequence_step_timeouts enables
   Ok (budget_microseconds enables timeouts)
 
--- lib.rs 732, set_measurement_timing_budget: the final range timeout is computed and written whether or not final range is on
+-- lib.rs 732, set_measurement_timing_budget after its first test: the final range timeout is computed and written whether or not final range is on
+abbrev pub set_budget_from_reads : ℕ → Fn Bool
+set_budget_from_reads budget_microseconds = do
+  enables ← get_sequence_step_enables
+  timeouts ← get_sequence_step_timeouts enables
+  if (ltb budget_microseconds (use_budget_microseconds enables timeouts))
+      (Ok false)
+      (do
+        clocks ←
+            timeout_microseconds_to_mclks
+            (budget_microseconds - use_budget_microseconds enables timeouts)
+            timeouts.final_range_vcsel_period_pclks
+        final_range_timeout_mclks ← add_if enables.pre_range (clocks % 65536) timeouts.pre_range_mclks
+        write_16bit FINAL_RANGE_CONFIG_TIMEOUT_MACROP_HI (encode_timeout final_range_timeout_mclks)
+        set_self_budget budget_microseconds
+        Ok true)
+
 unfoldable pub set_measurement_timing_budget : ℕ → Fn Bool
 set_measurement_timing_budget budget_microseconds =
-    if (ltb budget_microseconds 20000)
-    (Ok false)
-    (do
-      enables ← get_sequence_step_enables
-      timeouts ← get_sequence_step_timeouts enables
-      if (ltb budget_microseconds (use_budget_microseconds enables timeouts))
-          (Ok false)
-          (do
-            clocks ←
-                timeout_microseconds_to_mclks
-                (budget_microseconds - use_budget_microseconds enables timeouts)
-                timeouts.final_range_vcsel_period_pclks
-            final_range_timeout_mclks ← add_if enables.pre_range (clocks % 65536) timeouts.pre_range_mclks
-            write_16bit FINAL_RANGE_CONFIG_TIMEOUT_MACROP_HI (encode_timeout final_range_timeout_mclks)
-            set_self_budget budget_microseconds
-            Ok true))
+    if (ltb budget_microseconds 20000) (Ok false) (set_budget_from_reads budget_microseconds)
 
 -- lib.rs 827: set_interrupt_thresholds_mm
 abbrev pub set_interrupt_thresholds_mm : ℕ → ℕ → Fn Unit

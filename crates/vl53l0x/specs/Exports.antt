@@ -3,8 +3,7 @@ use Rattle.std.specs.Prelude.{◌≡◌, true, cond, List, ℕ, ◌≤◌, eqb, 
 use Rattle.session.specs.declared.Answer.{Answer}
 use Rattle.session.specs.declared.Session.{Session}
 use Rattle.session.specs.Bus.{byte, number_of}
-use Rattle.session.specs.Claim1.{outstanding}
-use Rattle.session.specs.Machine.{ill_formed, waits_now}
+use Rattle.session.specs.Machine.{outstanding, ill_formed, waits_now}
 use Rattle.session.specs.Records.{step_def}
 use Rattle.reactions.specs.declared.Outcome.{Outcome}
 use Rattle.reactions.specs.Outcome.{outcome_of}
