@@ -1,8 +1,8 @@
 -- What holds of every session that is handed in, also one that no run leaves: a call begins with its own code, arguments and count, and a call that
 -- waits goes on in what is left of its script. 01: "arithmetic on carried bytes gives the first place in the Rust's order, also where no driver run
 -- could have left them".
-use Rattle.std.specs.Prelude.{◌≡◌, true, false, cond, List, [], ◌∷◌, ◌++◌, ℕ, zero, suc, ◌+◌, ◌-◌, ◌≤◌, length, take, drop}
-use Rattle.session.specs.Bus.{byte, Driver, Answer, Reply, bad, good, wait_limit, idle_on, zero_from, clean_from}
+use Rattle.std.specs.Prelude.{◌≡◌, true, false, ◌&&◌, cond, eqb, leb, get_or, List, [], ◌∷◌, ◌++◌, ℕ, zero, suc, ◌+◌, ◌-◌, ◌≤◌, length, take, drop}
+use Rattle.session.specs.Bus.{byte, Driver, Transfer, Answer, Reply, bad, good, wait_limit, idle_on, zero_from, clean_from}
 use Rattle.session.specs.Instructions.{Context, stop_answer, Verdict, onward, leap, stop, test, Op, write, read, wait, range, Final, success, failure, send_of, kept_bytes, kept_failure, kept_budget, read_wins, report_of}
 use Rattle.session.specs.Calls.{ops_of, program_of}
 use Rattle.session.specs.Machine.{Session, Outcome, sent, answered, refused, broken, context_of, begun, outstanding}
@@ -106,6 +106,148 @@ StepByStep s f bs =
     Underway s
     → zero_from (clean_from f (outstanding s).reads) bs ≡ true
     → StandsAt s (step_def s (reply f bs)) (hears (left s) (cut (outstanding s) f bs))
+
+-- WHAT IS NEEDED. 01: "While a call waits the session carries its arguments and the reply bytes still needed, raw". A part of what it carries
+pub data Part : Type 0 where
+  -- the byte in a slot
+  byte_in : ℕ → Part
+  -- a byte of the range word, which counts where its read did not fail
+  range_byte_in : ℕ → Part
+  failure_code own_budget argument_a argument_b : Part
+
+abbrev pub part_of : Part → Session → ℕ
+part_of (byte_in i) s = byte i s.carried
+part_of (range_byte_in i) s = cond (eqb s.failed 0) (byte i s.carried) 0
+part_of failure_code s = s.failed
+part_of own_budget s = s.own
+part_of argument_a s = s.a
+part_of argument_b s = s.b
+
+abbrev pub bytes_in : ℕ → ℕ → List Part
+bytes_in i zero = []
+bytes_in i (suc n) = byte_in i ∷ bytes_in (suc i) n
+
+-- a first and a last step, and parts
+abbrev pub Rows : Type 0
+Rows = List (ℕ × ℕ × List Part)
+
+-- six budget reads from a step on, whose bytes are carried from slot k on: each is needed up to the last
+abbrev pub budget_rows : ℕ → ℕ → Rows
+budget_rows first k =
+    (first + 1, first + 5, bytes_in k 1)
+    ∷ (first + 2, first + 5, bytes_in (k + 1) 2)
+    ∷ (first + 3, first + 5, bytes_in (k + 3) 2)
+    ∷ (first + 4, first + 5, bytes_in (k + 5) 1)
+    ∷ (first + 5, first + 5, bytes_in (k + 6) 1)
+    ∷ []
+
+-- a range word, from the step after its read to the last
+abbrev pub range_rows : ℕ → Rows
+range_rows first = (first, first + 1, failure_code ∷ range_byte_in 4 ∷ range_byte_in 5 ∷ []) ∷ []
+
+-- by code: what a reply at a step, and all that comes after it, may depend on. Slots: 1 the stop byte, 3 the byte of 0x92, 4 the range word,
+-- 8 the first budget replies and the low threshold, 16 the map and then the second budget replies
+unfoldable pub needed_rows : List Rows
+needed_rows =
+    []
+    ∷ ((0, 155, argument_a ∷ [])
+    ∷ (8, 155, bytes_in 1 1)
+    ∷ (29, 42, bytes_in 3 1)
+    ∷ (38, 42, bytes_in 16 6)
+    ∷ (135, 155, own_budget ∷ [])
+    ∷ budget_rows 129 8
+    ++ budget_rows 136 16)
+    ∷ []
+    ∷ ((0, 0, argument_a ∷ []) ∷ [])
+    ∷ ((0, 8, argument_a ∷ []) ∷ [])
+    ∷ []
+    ∷ range_rows 2
+    ∷ range_rows 2
+    ∷ range_rows 11
+    ∷ ((0, 6, argument_a ∷ []) ∷ budget_rows 0 8)
+    ∷ ((0, 0, argument_b ∷ []) ∷ [])
+    ∷ ((1, 1, bytes_in 8 2) ∷ [])
+    ∷ ((0, 1, argument_b ∷ []) ∷ [])
+    ∷ []
+    ∷ []
+    ∷ budget_rows 0 8
+    ∷ []
+
+-- by code: what the transfer that is out at a step is made of
+unfoldable pub sent_rows : List Rows
+sent_rows =
+    []
+    ∷ ((0, 155, argument_a ∷ [])
+    ∷ (2, 2, bytes_in 2 1)
+    ∷ (12, 12, bytes_in 2 1)
+    ∷ (20, 20, bytes_in 2 1)
+    ∷ (32, 32, bytes_in 2 1)
+    ∷ (43, 43, byte_in 3 ∷ bytes_in 16 6)
+    ∷ (126, 126, bytes_in 2 1)
+    ∷ (142, 142, own_budget ∷ bytes_in 16 8)
+    ∷ [])
+    ∷ []
+    ∷ ((0, 0, argument_a ∷ []) ∷ [])
+    ∷ ((8, 9, argument_a ∷ []) ∷ (8, 8, bytes_in 8 2) ∷ [])
+    ∷ []
+    ∷ []
+    ∷ []
+    ∷ []
+    ∷ ((6, 6, argument_a ∷ bytes_in 8 8) ∷ [])
+    ∷ ((0, 0, argument_a ∷ []) ∷ (1, 1, argument_b ∷ []) ∷ [])
+    ∷ []
+    ∷ ((0, 0, argument_a ∷ []) ∷ (2, 2, argument_b ∷ bytes_in 2 1) ∷ [])
+    ∷ []
+    ∷ ((0, 0, argument_a ∷ []) ∷ [])
+    ∷ []
+    ∷ []
+
+abbrev pub parts_at : ℕ → Rows → List Part
+parts_at step [] = []
+parts_at step (r ∷ rs) = cond (leb r.0 step && leb step r.1) (r.2 ++ parts_at step rs) (parts_at step rs)
+
+abbrev pub needed : ℕ → ℕ → List Part
+needed code step = parts_at step (get_or needed_rows code [])
+
+abbrev pub sent_from : ℕ → ℕ → List Part
+sent_from code step = parts_at step (get_or sent_rows code [])
+
+abbrev pub AllSame : List Part → Session → Session → Type 0
+AllSame [] s s' = Unit {0}
+AllSame (p ∷ ps) s s' = (part_of p s ≡ part_of p s') × AllSame ps s s'
+
+-- two sessions at the same place of the same call, which agree on these parts; a bring-up looks at no field of the driver
+pub record AgreeOn (ps : List Part) (s s' : Session) : Type 0 where
+  pub code : s.code ≡ s'.code
+  pub step : s.step ≡ s'.step
+  pub idle : s.idle ≡ s'.idle
+  pub driver : eqb s.code 1 ≡ false → s.driver ≡ s'.driver
+  pub room : length s.carried ≡ length s'.carried
+  pub parts : AllSame ps s s'
+
+abbrev pub Agree : Session → Session → Type 0
+Agree s s' = AgreeOn (needed s.code s.step) s s'
+
+-- two outcomes with the same transfer and sessions that go on agreeing, or with the same answer and fields; the count of transfers is each one's own
+pub data Alike : Outcome → Outcome → Type 0 where
+  same_transfer : (t : Transfer) (s s' : Session) → Agree s s' → Alike (sent t s) (sent t s')
+  same_answer : (x : Answer) (n n' : ℕ) (s : Session) → Alike (answered x n s) (answered x n' s)
+  same_refusal : (x : Answer) (s s' : Session) → Alike (refused x s) (refused x s')
+
+-- a reply depends on the parts that are needed, and on nothing else; so does all that comes after it
+abbrev pub DependsOnNeeded : Session → Session → ℕ → List ℕ → Type 0
+DependsOnNeeded s s' f bs = Underway s → Underway s' → Agree s s' → Alike (step_def s (reply f bs)) (step_def s' (reply f bs))
+
+abbrev pub SentFrom : Session → Session → Type 0
+SentFrom s s' = Underway s → Underway s' → AgreeOn (sent_from s.code s.step) s s' → outstanding s ≡ outstanding s'
+
+-- 01: "Register writes read back as many bytes as the Rust asks (1; 6 for the map) and ignore them": a transfer that writes more than its register
+abbrev pub IgnoresReadBack : Session → List ℕ → List ℕ → Type 0
+IgnoresReadBack s bs bs' =
+    Underway s → 2 ≤ (outstanding s).count
+    → zero_from (outstanding s).reads bs ≡ true
+    → zero_from (outstanding s).reads bs' ≡ true
+    → step_def s (reply 0 bs) ≡ step_def s (reply 0 bs')
 
 -- THE BUDGET READS, for all bytes. The six replies that the carried bytes from slot k on are, in the Rust's order
 abbrev pub budget_replies : ℕ → List ℕ → List Reply
