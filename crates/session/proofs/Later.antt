@@ -15,7 +15,7 @@ from_below k zero j l bytes h = refl
 from_below k (suc n) j l bytes h = rw (under bytes l j k (omega arith), from_below (suc k) n j l bytes (omega arith)) refl
 
 -- the first n replies are the bytes before the next
-first_replies : (n : ℕ) → n ≤ 5 → (k : ℕ) (l : List ℕ) → first_place (timing_in k l) n ≡ first_place (registers_of (bytes_from k (timing_place (suc n)) l)) n
+pub first_replies : (n : ℕ) → n ≤ 5 → (k : ℕ) (l : List ℕ) → first_place (timing_in k l) n ≡ first_place (registers_of (bytes_from k (timing_place (suc n)) l)) n
 unfolding first_place entries_of first_match less_place
 first_replies zero h k l = refl
 first_replies (suc zero) h k l = refl

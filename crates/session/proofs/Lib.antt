@@ -53,6 +53,8 @@ pub mod React
 pub mod Keeps
 pub mod Demand3
 pub mod Corollaries
+-- every session that is handed in
+pub mod Uses
 -- waits over any limit, and values
 pub mod Waits
 pub mod Bench

@@ -1,0 +1,266 @@
+-- What each instruction looks at of what a call carries: in the bytes that it sends, and in what a good reply decides.
+use mathlib.Core.Path.{◌≡◌, refl, sym, ap, ◌∙◌}
+use mathlib.Core.Bool.{Bool, true, false, cond, ◌&&◌, ◌||◌}
+use mathlib.Core.List.{List, [], ◌∷◌, ◌++◌}
+use Prim.Native.Nat.{ℕ, zero, suc, ◌+◌, ◌≤◌}
+use native.Mathlib.Omega.{arith}
+use lib.Dec.{eqb, leb}
+use lib.ListN.{length, get_or}
+use borrow.Author.Tests.{leb-true}
+use Rattle.timing.specs.Registers.{registers_of}
+use Rattle.timing.specs.Places.{first_place}
+use Rattle.budget.specs.Budget.{final_range_word}
+use Rattle.session.specs.Bus.{byte, Driver}
+use Rattle.session.specs.Instructions.{Instruction, Context, Verdict, Op, write, read, wait, range, Final, second_slot, bytes_from, timing_in}
+use Rattle.session.specs.Steps.{by_place, by_word, dss_of_call9, budget_to_set, word_to_set, no_time, timing_place, op_of}
+use Rattle.session.specs.Calls.{Program, range_result, programs, program_of}
+use Rattle.session.specs.AnySession.{Part, byte_in, range_byte_in, failure_code, own_budget, argument_a, argument_b, bytes_in}
+use Rattle.session.proofs.Table.{of_table}
+use Rattle.session.proofs.Later.{first_replies}
+
+abbrev pub part_in : Part → Context → ℕ
+part_in (byte_in i) c = byte i c.carried
+part_in (range_byte_in i) c = cond (eqb c.failed 0) (byte i c.carried) 0
+part_in failure_code c = c.failed
+part_in own_budget c = c.own
+part_in argument_a c = c.a
+part_in argument_b c = c.b
+
+abbrev pub On : List Part → Context → Context → Type 0
+On [] c c' = Unit {0}
+On (p ∷ ps) c c' = (part_in p c ≡ part_in p c') × On ps c c'
+
+-- two contexts of one call
+pub record Kin (c c' : Context) : Type 0 where
+  pub code : c.code ≡ c'.code
+  pub driver : c.driver ≡ c'.driver
+  pub address : c.address ≡ c'.address
+  pub room : length c.carried ≡ length c'.carried
+
+pub bytes_same : (i n : ℕ) (c c' : Context) → On (bytes_in i n) c c' → bytes_from i n c.carried ≡ bytes_from i n c'.carried
+bytes_same i zero c c' h = refl
+bytes_same i (suc n) c c' h = rw (h.0, bytes_same (suc i) n c c' h.1) refl
+
+-- the budget that is set
+abbrev pub budget_part : ℕ → Part
+budget_part k = cond (eqb k second_slot) own_budget argument_a
+
+budget_same : (k : ℕ) (c c' : Context) → part_in (budget_part k) c ≡ part_in (budget_part k) c' → budget_to_set k c ≡ budget_to_set k c'
+budget_same k c c' = go (eqb k second_slot)
+  where
+    go : (t : Bool) → part_in (cond t own_budget argument_a) c ≡ part_in (cond t own_budget argument_a) c' → cond t c.own c.a ≡ cond t c'.own c'.a
+    go true h = h
+    go false h = h
+
+abbrev pub word_parts : ℕ → List Part
+word_parts k = budget_part k ∷ bytes_in k 8
+
+word_same : (k : ℕ) (c c' : Context) → On (word_parts k) c c' → word_to_set k c ≡ word_to_set k c'
+word_same k c c' h =
+    ap (λ bs. final_range_word (registers_of bs) (record { 0 = budget_to_set k c }) dss_of_call9) (bytes_same k 8 c c' h.1)
+    ∙ ap (λ b. final_range_word (timing_in k c'.carried) (record { 0 = b }) dss_of_call9) (budget_same k c c' h.0)
+
+-- the bytes of the first n budget replies
+abbrev pub reply_bytes : ℕ → ℕ
+reply_bytes n = cond (leb n 5) (timing_place (suc n)) 8
+
+places_same : (n k : ℕ) (c c' : Context) → On (bytes_in k (reply_bytes n)) c c' → first_place (timing_in k c.carried) n ≡ first_place (timing_in k c'.carried) n
+places_same n k c c' = go (leb n 5) refl
+  where
+    go : (t : Bool) → leb n 5 ≡ t → On (bytes_in k (cond t (timing_place (suc n)) 8)) c c' → first_place (timing_in k c.carried) n ≡ first_place (timing_in k c'.carried) n
+    go true e h =
+        let le : n ≤ 5 = leb-true n 5 e in
+        first_replies n le k c.carried ∙ ap (λ bs. first_place (registers_of bs) n) (bytes_same k (timing_place (suc n)) c c' h) ∙ sym (first_replies n le k c'.carried)
+    go false e h = ap (λ bs. first_place (registers_of bs) n) (bytes_same k 8 c c' h)
+
+abbrev pub sends_of : Instruction → List Part
+sends_of Instruction.Nowhere = []
+sends_of (Instruction.Write reg b) = []
+sends_of (Instruction.WriteOr reg mask) = bytes_in 2 1
+sends_of (Instruction.WriteAnd reg mask) = bytes_in 2 1
+sends_of (Instruction.Read reg k) = []
+sends_of (Instruction.ReadWord reg k) = []
+sends_of Instruction.Identify = []
+sends_of Instruction.ReadMap = []
+sends_of Instruction.WriteMap = byte_in 3 ∷ bytes_in 16 6
+sends_of Instruction.WriteQuarter = []
+sends_of Instruction.WriteRate = argument_a ∷ []
+sends_of Instruction.WriteStop = []
+sends_of Instruction.Prepared = []
+sends_of Instruction.ReadOscillator = []
+sends_of Instruction.WritePeriod = argument_a ∷ bytes_in 8 2
+sends_of Instruction.WriteMode = argument_a ∷ []
+sends_of Instruction.WriteAddress = argument_a ∷ []
+sends_of Instruction.WriteLow = argument_a ∷ []
+sends_of Instruction.WriteHigh = argument_b ∷ []
+sends_of Instruction.WriteFunction = argument_a ∷ []
+sends_of Instruction.WritePolarity = argument_b ∷ bytes_in 2 1
+sends_of Instruction.ReadStatus = []
+sends_of (Instruction.ReadTiming n k) = []
+sends_of (Instruction.ReadLast k) = []
+sends_of Instruction.WriteSteps = []
+sends_of (Instruction.WriteWord k) = word_parts k
+sends_of Instruction.AwaitDetector = []
+sends_of Instruction.AwaitStatus = []
+sends_of Instruction.AwaitStart = []
+sends_of Instruction.ReadRange = []
+
+abbrev pub decides_of : Instruction → List Part
+decides_of Instruction.Nowhere = []
+decides_of (Instruction.Write reg b) = []
+decides_of (Instruction.WriteOr reg mask) = []
+decides_of (Instruction.WriteAnd reg mask) = []
+decides_of (Instruction.Read reg k) = []
+decides_of (Instruction.ReadWord reg k) = []
+decides_of Instruction.Identify = bytes_in 0 1
+decides_of Instruction.ReadMap = []
+decides_of Instruction.WriteMap = []
+decides_of Instruction.WriteQuarter = []
+decides_of Instruction.WriteRate = []
+decides_of Instruction.WriteStop = []
+decides_of Instruction.Prepared = argument_a ∷ []
+decides_of Instruction.ReadOscillator = argument_a ∷ bytes_in 8 2
+decides_of Instruction.WritePeriod = []
+decides_of Instruction.WriteMode = []
+decides_of Instruction.WriteAddress = []
+decides_of Instruction.WriteLow = []
+decides_of Instruction.WriteHigh = []
+decides_of Instruction.WriteFunction = []
+decides_of Instruction.WritePolarity = []
+decides_of Instruction.ReadStatus = bytes_in 2 1
+decides_of (Instruction.ReadTiming n k) = bytes_in k (reply_bytes n)
+decides_of (Instruction.ReadLast k) = word_parts k
+decides_of Instruction.WriteSteps = own_budget ∷ []
+decides_of (Instruction.WriteWord k) = []
+decides_of Instruction.AwaitDetector = []
+decides_of Instruction.AwaitStatus = []
+decides_of Instruction.AwaitStart = []
+decides_of Instruction.ReadRange = []
+
+abbrev pub SendsFrom : Op → List Part → Type 0
+SendsFrom (write reg bytes len over after) ps = (c c' : Context) → Kin c c' → On ps c c' → bytes c ≡ bytes c'
+SendsFrom (read reg len slot over after) ps = Unit {0}
+SendsFrom (wait w) ps = Unit {0}
+SendsFrom range ps = Unit {0}
+
+abbrev pub DecidesFrom : Op → List Part → Type 0
+DecidesFrom (write reg bytes len over after) ps = (c c' : Context) → On ps c c' → after c ≡ after c'
+DecidesFrom (read reg len slot over after) ps = (c c' : Context) → On ps c c' → after c ≡ after c'
+DecidesFrom (wait w) ps = Unit {0}
+DecidesFrom range ps = Unit {0}
+
+pub sends_from : (i : Instruction) → SendsFrom (op_of i) (sends_of i)
+sends_from Instruction.Nowhere = λ c c' m h. refl
+sends_from (Instruction.Write reg b) = λ c c' m h. refl
+sends_from (Instruction.WriteOr reg mask) = λ c c' m h. rw h.0 refl
+sends_from (Instruction.WriteAnd reg mask) = λ c c' m h. rw h.0 refl
+sends_from (Instruction.Read reg k) = tt
+sends_from (Instruction.ReadWord reg k) = tt
+sends_from Instruction.Identify = tt
+sends_from Instruction.ReadMap = tt
+sends_from Instruction.WriteMap = λ c c' m h. rw (h.0, bytes_same 16 6 c c' h.1) refl
+sends_from Instruction.WriteQuarter = λ c c' m h. refl
+sends_from Instruction.WriteRate = λ c c' m h. rw h.0 refl
+sends_from Instruction.WriteStop = λ c c' m h. rw m.driver refl
+sends_from Instruction.Prepared = λ c c' m h. refl
+sends_from Instruction.ReadOscillator = tt
+sends_from Instruction.WritePeriod = λ c c' m h. rw (h.0, h.1.0, h.1.1.0) refl
+sends_from Instruction.WriteMode = λ c c' m h. rw h.0 refl
+sends_from Instruction.WriteAddress = λ c c' m h. rw h.0 refl
+sends_from Instruction.WriteLow = λ c c' m h. rw h.0 refl
+sends_from Instruction.WriteHigh = λ c c' m h. rw h.0 refl
+sends_from Instruction.WriteFunction = λ c c' m h. rw h.0 refl
+sends_from Instruction.WritePolarity = λ c c' m h. rw (h.0, h.1.0) refl
+sends_from Instruction.ReadStatus = tt
+sends_from (Instruction.ReadTiming n k) = tt
+sends_from (Instruction.ReadLast k) = tt
+sends_from Instruction.WriteSteps = λ c c' m h. refl
+sends_from (Instruction.WriteWord k) = λ c c' m h. rw (word_same k c c' h) refl
+sends_from Instruction.AwaitDetector = tt
+sends_from Instruction.AwaitStatus = tt
+sends_from Instruction.AwaitStart = tt
+sends_from Instruction.ReadRange = tt
+
+pub decides_from : (i : Instruction) → DecidesFrom (op_of i) (decides_of i)
+decides_from Instruction.Nowhere = λ c c' h. refl
+decides_from (Instruction.Write reg b) = λ c c' h. refl
+decides_from (Instruction.WriteOr reg mask) = λ c c' h. refl
+decides_from (Instruction.WriteAnd reg mask) = λ c c' h. refl
+decides_from (Instruction.Read reg k) = λ c c' h. refl
+decides_from (Instruction.ReadWord reg k) = λ c c' h. refl
+decides_from Instruction.Identify = λ c c' h. rw h.0 refl
+decides_from Instruction.ReadMap = λ c c' h. refl
+decides_from Instruction.WriteMap = λ c c' h. refl
+decides_from Instruction.WriteQuarter = λ c c' h. refl
+decides_from Instruction.WriteRate = λ c c' h. refl
+decides_from Instruction.WriteStop = λ c c' h. refl
+decides_from Instruction.Prepared = λ c c' h. rw h.0 refl
+decides_from Instruction.ReadOscillator = λ c c' h. rw (h.0, h.1.0, h.1.1.0) refl
+decides_from Instruction.WritePeriod = λ c c' h. refl
+decides_from Instruction.WriteMode = λ c c' h. refl
+decides_from Instruction.WriteAddress = λ c c' h. refl
+decides_from Instruction.WriteLow = λ c c' h. refl
+decides_from Instruction.WriteHigh = λ c c' h. refl
+decides_from Instruction.WriteFunction = λ c c' h. refl
+decides_from Instruction.WritePolarity = λ c c' h. refl
+decides_from Instruction.ReadStatus = λ c c' h. rw h.0 refl
+decides_from (Instruction.ReadTiming n k) = λ c c' h. ap by_place (places_same n k c c' h)
+decides_from (Instruction.ReadLast k) = λ c c' h. ap (by_word (no_time k)) (word_same k c c' h)
+decides_from Instruction.WriteSteps = λ c c' h. rw h.0 refl
+decides_from (Instruction.WriteWord k) = λ c c' h. refl
+decides_from Instruction.AwaitDetector = tt
+decides_from Instruction.AwaitStatus = tt
+decides_from Instruction.AwaitStart = tt
+decides_from Instruction.ReadRange = tt
+
+-- and what the end of a call does, by its code
+unfoldable pub ends_of : List (List Part)
+ends_of =
+    [] ∷ (argument_a ∷ byte_in 1 ∷ own_budget ∷ []) ∷ bytes_in 0 1 ∷ (argument_a ∷ []) ∷ [] ∷ [] ∷ (failure_code ∷ range_byte_in 4 ∷ range_byte_in 5 ∷ [])
+    ∷ (failure_code ∷ range_byte_in 4 ∷ range_byte_in 5 ∷ [])
+    ∷ (failure_code ∷ range_byte_in 4 ∷ range_byte_in 5 ∷ [])
+    ∷ (argument_a ∷ [])
+    ∷ []
+    ∷ bytes_in 8 4
+    ∷ []
+    ∷ []
+    ∷ []
+    ∷ (own_budget ∷ [])
+    ∷ []
+
+abbrev pub end_of : ℕ → List Part
+end_of code = get_or ends_of code []
+
+abbrev EndsFrom : ℕ → Program → Type 0
+EndsFrom code p = (c c' : Context) → Kin c c' → On (end_of code) c c' → p.final c ≡ p.final c'
+
+range_ends : (c c' : Context) → Kin c c' → On (failure_code ∷ range_byte_in 4 ∷ range_byte_in 5 ∷ []) c c' → range_result c ≡ range_result c'
+range_ends c c' m h = go c.failed c'.failed refl refl h
+  where
+    go : (e e' : ℕ) → c.failed ≡ e → c'.failed ≡ e' → On (failure_code ∷ range_byte_in 4 ∷ range_byte_in 5 ∷ []) c c' → range_result c ≡ range_result c'
+    go zero zero f f' h = rw (f, f', m.driver, rw (f, f') at h.1.0, rw (f, f') at h.1.1.0) refl
+    go zero (suc e') f f' h = absurd (omega (arith, sym f ∙ h.0 ∙ f'))
+    go (suc e) zero f f' h = absurd (omega (arith, sym f ∙ h.0 ∙ f'))
+    go (suc e) (suc e') f f' h = rw (h.0, f') refl
+
+pub ends_from : (code : ℕ) (c c' : Context) → Kin c c' → On (end_of code) c c' → (program_of code).final c ≡ (program_of code).final c'
+unfolding programs ends_of
+ends_from =
+    of_table EndsFrom (λ k c c' m h. refl)
+    (λ c c' m h. refl,
+    (λ c c' m h. rw (h.0, h.1.0, h.1.1.0) refl,
+    (λ c c' m h. rw (m.driver, h.0) refl,
+    (λ c c' m h. rw (m.driver, h.0) refl,
+    (λ c c' m h. rw m.driver refl,
+    (λ c c' m h. rw m.driver refl,
+    (range_ends,
+    (range_ends,
+    (range_ends,
+    (λ c c' m h. rw (m.driver, h.0) refl,
+    (λ c c' m h. rw m.driver refl,
+    (λ c c' m h. rw (m.driver, h.0, h.1.0, h.1.1.0, h.1.1.1.0) refl,
+    (λ c c' m h. rw m.driver refl,
+    (λ c c' m h. rw m.driver refl,
+    (λ c c' m h. rw m.driver refl,
+    (λ c c' m h. rw (m.driver, h.0) refl,
+    tt))))))))))))))))
