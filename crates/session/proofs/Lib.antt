@@ -55,6 +55,7 @@ pub mod Demand3
 pub mod Corollaries
 -- every session that is handed in
 pub mod Uses
+pub mod Kept
 -- waits over any limit, and values
 pub mod Waits
 pub mod Bench
