@@ -40,7 +40,7 @@ abbrev plain_after : ℕ → List Instruction → Bool
 plain_after zero is = true
 plain_after (suc n) is = plain (drop (suc n) is)
 
-abbrev over_of : Op → ℕ
+abbrev pub over_of : Op → ℕ
 over_of (write reg bytes len over after) = over
 over_of (read reg len slot over after) = over
 over_of (wait x) = 0

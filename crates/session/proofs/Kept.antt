@@ -81,7 +81,7 @@ sources (read reg len slot over after) = cond (eqb slot 15) (bytes_in 8 7) []
 sources (wait w) = []
 sources range = []
 
-either : {A : Type 0} (a b : Bool) → a || b ≡ true → (a ≡ true → A) → (b ≡ true → A) → A
+pub either : {A : Type 0} (a b : Bool) → a || b ≡ true → (a ≡ true → A) → (b ≡ true → A) → A
 either true b h f g = f refl
 either false b h f g = g h
 

@@ -56,6 +56,7 @@ pub mod Corollaries
 -- every session that is handed in
 pub mod Uses
 pub mod Kept
+pub mod Needed
 -- waits over any limit, and values
 pub mod Waits
 pub mod Bench
