@@ -10,15 +10,20 @@ use lib.Dec.{eqb, ltb}
 use lib.ListN.{length, get_or, drop}
 use lib.Seq.{drop-drop}
 use Rattle.std.specs.List.{drop-map}
-use Rattle.session.specs.Bus.{transfer_of, Driver, byte, Answer, Reply, bad, good, Condition, wait_limit, idle_on, absent}
+use Rattle.session.specs.Bus.{transfer_of, wait_register, Driver, byte, Answer, Reply, bad, good, Condition, wait_limit, idle_on, absent, zero_from, clean_from}
 use Rattle.session.specs.Instructions.{Instruction, Context, range_slot, bytes_from, put, kept_bytes, stop_answer, Verdict, onward, leap, stop, test, Op, write, read, wait, range, Final, success, failure, send_of, read_wins, report_of}
 use Rattle.session.specs.Steps.{op_of}
 use Rattle.session.specs.Calls.{Program, ops_of, tuning, programs, program_of}
-use Rattle.session.specs.Machine.{Session, Outcome, sent, answered, held_by, address_of, resting, context_of, kept_of, sending, giving, conclude, enter, arrive, decide, react}
-use Rattle.session.specs.AnySession.{keeping, Part, byte_in, range_byte_in, failure_code, own_budget, argument_a, argument_b, needed_rows, needed, sent_rows, sent_from, part_of, AllSame, AgreeOn, Agree, Alike, same_transfer, same_answer, same_refusal}
-use Rattle.session.proofs.Facts.{both, clash, drop_next}
+use Rattle.session.specs.Machine.{Session, Outcome, sent, answered, held_by, address_of, resting, context_of, kept_of, sending, giving, conclude, enter, arrive, decide, react, to_reply, stray, idle_wrong, malformed, refused, reply_def}
+use Rattle.session.specs.Records.{reply, step_def}
+use Rattle.session.specs.Refusals.{Underway}
+use Rattle.session.specs.AnySession.{keeping, Part, byte_in, range_byte_in, failure_code, own_budget, argument_a, argument_b, needed_rows, needed, sent_rows, sent_from, part_of, AllSame, AgreeOn, Agree, Alike, same_transfer, same_answer, same_refusal, DependsOnNeeded}
+use Rattle.session.proofs.Facts.{both, clash, untrue, drop_next}
 use Rattle.session.proofs.Slots.{length_put}
 use Rattle.session.proofs.Table.{of_test}
+use Rattle.session.proofs.Cut.{stray_is}
+use Rattle.session.proofs.Strays.{sound_step}
+use Rattle.session.proofs.Refused.{sound_of}
 use Rattle.session.proofs.Eager.{over_of}
 use Rattle.session.proofs.Uses.{part_in, On, Kin, sends_of, decides_of, SendsFrom, DecidesFrom, sends_from, decides_from, ends_of, end_of, ends_from}
 use Rattle.session.proofs.Kept.{brings, leaves, sources, either, Goes, brought, left_alone}
@@ -289,3 +294,136 @@ module _ (code : ℕ) where
     leap_on r g =
         rw (← (drop-drop (over_of (op_of i)) (suc k) prog.steps), next_is)
         (kept_on r (arrival code (suc k + over_of (op_of i)) (drop (over_of (op_of i)) is)) g fits.leapt)
+
+    -- a good reply to a wait, with the code, the step and the idle reads beside the session
+    abbrev waited : Condition → List ℕ → Session → ℕ → ℕ → ℕ → Outcome
+    waited w bs x n j m =
+        cond (idle_on w bs)
+        (cond (ltb (suc m) (wait_limit n w)) (sent (send_of (wait w) (context_of x)) (sending j (suc m) x)) (giving Answer.Timeout x))
+        (arrive prog (suc j) x)
+
+    waited_as : (w : Condition) (bs : List ℕ) (x : Session) (n n' j j' m m' : ℕ) → n ≡ n' → j ≡ j' → m ≡ m' → waited w bs x n j m ≡ waited w bs x n' j' m'
+    waited_as w bs x n n' j j' m m' a b c = rw (a, b, c) refl
+
+    reacts : (r : Reply) → s.step ≡ k → s'.step ≡ k → s.idle ≡ s'.idle → Alike (react (op_of i) prog s r) (react (op_of i) prog s' r)
+    reacts r e e' q = go (op_of i) refl (decides_from i) r
+      where
+        after_on : (r : Reply) → Goes (op_of i) r → On (decides_of i) (context_of (kept_of s (op_of i) r)) (context_of (kept_of s' (op_of i) r))
+        after_on r g = kept_on r (decides_of i) g fits.decided
+
+        failed_same : (reg : ℕ) (bytes : Context → List ℕ) (len over : ℕ) (after : Context → Verdict) → op_of i ≡ write reg bytes len over after
+            → read_wins code ≡ true → s.failed ≡ s'.failed
+        failed_same reg bytes len over after z w =
+            (all_same (failure_code ∷ []) (needed code k) (context_of s) (context_of s') (rw (z, w) at fits.reported) o).0
+
+        report_same : (reg : ℕ) (bytes : Context → List ℕ) (len over : ℕ) (after : Context → Verdict) → op_of i ≡ write reg bytes len over after
+            → (b : Bool) → read_wins code ≡ b → (x : ℕ) → report_of b s.failed x ≡ report_of b s'.failed x
+        report_same reg bytes len over after z true w x = ap (λ n. report_of true n x) (failed_same reg bytes len over after z w)
+        report_same reg bytes len over after z false w x = refl
+
+        on_range : (r : Reply) → Goes (op_of i) r → op_of i ≡ range → Alike (arrive prog (suc s.step) (kept_of s range r)) (arrive prog (suc s'.step) (kept_of s' range r))
+        on_range r g z =
+            subst (λ n. Alike (arrive prog (suc n) (kept_of s range r)) (arrive prog (suc s'.step) (kept_of s' range r))) (sym e)
+            (subst (λ n. Alike (arrive prog (suc k) (kept_of s range r)) (arrive prog (suc n) (kept_of s' range r))) (sym e')
+            (arrives_alike (suc k) (kept_of s range r) (kept_of s' range r) (twin_kept s s' range r t) (rw z at (next_on r g))))
+
+        decides_at : (v v' : Verdict) (over : ℕ) (u u' : Session) → v ≡ v' → Alike (decide v prog over (suc k) u) (decide v prog over (suc k) u')
+            → Alike (decide v prog over (suc s.step) u) (decide v' prog over (suc s'.step) u')
+        decides_at v v' over u u' a h =
+            subst (λ n. Alike (decide v prog over (suc n) u) (decide v' prog over (suc s'.step) u')) (sym e)
+            (subst (λ n. Alike (decide v prog over (suc k) u) (decide v' prog over (suc n) u')) (sym e')
+            (subst (λ w. Alike (decide v prog over (suc k) u) (decide w prog over (suc k) u')) a h))
+
+        waits : (w : Condition) → op_of i ≡ wait w → (bs : List ℕ) → (x y : Bool) → Alike
+            (cond x (cond y (sent (send_of (wait w) (context_of s)) (sending k (suc s.idle) s)) (giving Answer.Timeout s)) (arrive prog (suc k) s))
+            (cond x (cond y (sent (send_of (wait w) (context_of s')) (sending k (suc s.idle) s')) (giving Answer.Timeout s')) (arrive prog (suc k) s'))
+        waits w z bs true true =
+            rw (← (ap (λ a. transfer_of a (wait_register w ∷ []) 1) t.address))
+            (same_transfer (send_of (wait w) (context_of s)) (sending k (suc s.idle) s) (sending k (suc s.idle) s') (agree_at k (suc s.idle) s s' t o))
+        waits w z bs true false = gives_alike Answer.Timeout Answer.Timeout s s' t refl
+        waits w z bs false y = arrives_alike (suc k) s s' t (rw z at (next_on (good bs) (rw z tt)))
+
+        go : (op : Op) → op_of i ≡ op → DecidesFrom op (decides_of i) → (r : Reply) → Alike (react op prog s r) (react op prog s' r)
+        go (write reg bytes len over after) z d (bad x) =
+            gives_alike _ _ s s' t (rw (t.one, t.other) (ap Answer.BusError (report_same reg bytes len over after z (read_wins code) refl (suc x))))
+        go (write reg bytes len over after) z d (good bs) =
+            let a : after (context_of s) ≡ after (context_of s') = d (context_of s) (context_of s') (rw z at (after_on (good bs) (rw z tt))) in
+            decides_at (after (context_of s)) (after (context_of s')) over s s' a
+            (decides_alike (after (context_of s)) over (suc k) s s' t (rw z at (next_on (good bs) (rw z tt))) (rw z at (leap_on (good bs) (rw z tt))))
+        go (read reg len slot over after) z d (bad x) = gives_alike _ _ s s' t refl
+        go (read reg len slot over after) z d (good bs) =
+            let op' : Op = read reg len slot over after in
+            let u : Session = kept_of s op' (good bs) in
+            let u' : Session = kept_of s' op' (good bs) in
+            let a : after (context_of u) ≡ after (context_of u') = d (context_of u) (context_of u') (rw z at (after_on (good bs) (rw z tt))) in
+            decides_at (after (context_of u)) (after (context_of u')) over u u' a
+            (decides_alike (after (context_of u)) over (suc k) u u' (twin_kept s s' op' (good bs) t) (rw z at (next_on (good bs) (rw z tt))) (rw z at (leap_on (good bs) (rw z tt))))
+        go (wait w) z d (bad x) = gives_alike _ _ s s' t refl
+        go (wait w) z d (good bs) =
+            rw (
+              waited_as w bs s s.code code s.step k s.idle s.idle t.one e refl,
+              waited_as w bs s' s'.code code s'.step k s'.idle s.idle t.other e' (sym q),
+            )
+            (waits w z bs (idle_on w bs) (ltb (suc s.idle) (wait_limit code w)))
+        go range z d (bad x) = on_range (bad x) (rw z tt) z
+        go range z d (good bs) = on_range (good bs) (rw z tt) z
+
+-- the read length is the instruction's
+reads_same : (op : Op) (c c' : Context) → (send_of op c).reads ≡ (send_of op c').reads
+reads_same (write reg bytes len over after) c c' = refl
+reads_same (read reg len slot over after) c c' = refl
+reads_same (wait w) c c' = refl
+reads_same range c c' = refl
+
+strays_same : (op : Op) (s s' : Session) (f : ℕ) (bs : List ℕ) → stray (send_of op (context_of s)) f bs ≡ stray (send_of op (context_of s')) f bs
+strays_same op s s' f bs =
+    stray_is (send_of op (context_of s)) f bs
+    ∙ ap (λ n. not (zero_from (clean_from f n) bs)) (reads_same op (context_of s) (context_of s'))
+    ∙ sym (stray_is (send_of op (context_of s')) f bs)
+
+-- a step of the call, and what stands there
+instruction_there : (s : Session) → malformed s ≡ false → {A : Type 0}
+    → ((i : Instruction) (is : List Instruction) → drop s.step (program_of s.code).steps ≡ i ∷ is → A) → A
+instruction_there s m {A} f = go (drop s.step (program_of s.code).steps) refl
+  where
+    go : (l : List Instruction) → drop s.step (program_of s.code).steps ≡ l → A
+    go [] e =
+        let h : idle_wrong s.code (map op_of []) s.idle ≡ false = rw e at (rw (drop-map op_of s.step (program_of s.code).steps) at (sound_step s m)) in
+        untrue (sym h)
+    go (i ∷ is) e = f i is e
+
+-- sessions that agree are twins
+twins : (ps : List Part) (s s' : Session) → AgreeOn ps s s' → all_in (address_part s.code) ps ≡ true → Twin s.code s s'
+twins ps s s' g h =
+    record { one = refl; other = sym g.code; driver = g.driver; address = speaks (eqb s.code 1) refl; room = g.room }
+  where
+    speaks : (b : Bool) → eqb s.code 1 ≡ b → address_of s.code s.a s.driver ≡ address_of s'.code s'.a s'.driver
+    speaks true e =
+        let a : s.a ≡ s'.a = (all_same (argument_a ∷ []) ps (context_of s) (context_of s') (rw e at h) (parts_on ps s s' g.parts)).0 in
+        rw (← g.code, e, a) refl
+    speaks false e = rw (← g.code, e, g.driver e) refl
+
+-- a reply to the call of the code, at its step k
+met_at : (s : Session) (code k : ℕ) (i : Instruction) (is : List Instruction) (f : ℕ) (bs : List ℕ) → s.code ≡ code → s.step ≡ k → Underway s
+    → drop k (program_of code).steps ≡ i ∷ is
+    → step_def s (reply f bs) ≡ cond (stray (send_of (op_of i) (context_of s)) f bs) (refused Answer.StrayByte s) (react (op_of i) (program_of code) s (to_reply f bs))
+unfolding reply_def step_def
+met_at s code k i is f bs e e' u at =
+    let m = sound_of s u in
+    let here : drop s.step (program_of s.code).steps ≡ i ∷ is = rw (e, e') at in
+    let d : drop s.step (ops_of (program_of s.code)) ≡ op_of i ∷ map op_of is = drop-map op_of s.step (program_of s.code).steps ∙ ap (map op_of) here in
+    rw (m.0, m.1, d) (ap (λ n. cond (stray (send_of (op_of i) (context_of s)) f bs) (refused Answer.StrayByte s) (react (op_of i) (program_of n) s (to_reply f bs))) e)
+
+pub depends_on_needed : (s s' : Session) (f : ℕ) (bs : List ℕ) → DependsOnNeeded s s' f bs
+depends_on_needed s s' f bs u u' g =
+    instruction_there s (sound_of s u).1 (λ i is at.
+    let x : Fits s.code s.step i is = fits_at s.code s.step i is at in
+    let t : Twin s.code s s' = twins (needed s.code s.step) s s' g x.address in
+    let o : On (needed s.code s.step) (context_of s) (context_of s') = parts_on (needed s.code s.step) s s' g.parts in
+    rw (met_at s s.code s.step i is f bs refl refl u at, met_at s' s.code s.step i is f bs (sym g.code) (sym g.step) u' at, ← (strays_same (op_of i) s s' f bs))
+    (go (stray (send_of (op_of i) (context_of s)) f bs)
+    (reacts s.code s.step i is at s s' t o (to_reply f bs) refl (sym g.step) g.idle)))
+  where
+    go : {o o' : Outcome} (b : Bool) → Alike o o' → Alike (cond b (refused Answer.StrayByte s) o) (cond b (refused Answer.StrayByte s') o')
+    go true h = same_refusal Answer.StrayByte s s'
+    go false h = h
