@@ -14,10 +14,10 @@ use Rattle.session.specs.Bus.{transfer_of, wait_register, Driver, byte, Answer, 
 use Rattle.session.specs.Instructions.{Instruction, Context, range_slot, bytes_from, put, kept_bytes, stop_answer, Verdict, onward, leap, stop, test, Op, write, read, wait, range, Final, success, failure, send_of, read_wins, report_of}
 use Rattle.session.specs.Steps.{op_of}
 use Rattle.session.specs.Calls.{Program, ops_of, tuning, programs, program_of}
-use Rattle.session.specs.Machine.{Session, Outcome, sent, answered, held_by, address_of, resting, context_of, kept_of, sending, giving, conclude, enter, arrive, decide, react, to_reply, stray, idle_wrong, malformed, refused, reply_def}
+use Rattle.session.specs.Machine.{Session, Outcome, sent, answered, held_by, address_of, resting, context_of, kept_of, sending, giving, conclude, enter, arrive, decide, react, to_reply, stray, idle_wrong, malformed, refused, reply_def, outstanding}
 use Rattle.session.specs.Records.{reply, step_def}
 use Rattle.session.specs.Refusals.{Underway}
-use Rattle.session.specs.AnySession.{keeping, Part, byte_in, range_byte_in, failure_code, own_budget, argument_a, argument_b, needed_rows, needed, sent_rows, sent_from, part_of, AllSame, AgreeOn, Agree, Alike, same_transfer, same_answer, same_refusal, DependsOnNeeded}
+use Rattle.session.specs.AnySession.{keeping, Part, byte_in, range_byte_in, failure_code, own_budget, argument_a, argument_b, needed_rows, needed, sent_rows, sent_from, part_of, AllSame, AgreeOn, Agree, Alike, same_transfer, same_answer, same_refusal, DependsOnNeeded, SentFrom, IgnoresReadBack}
 use Rattle.session.proofs.Facts.{both, clash, untrue, drop_next}
 use Rattle.session.proofs.Slots.{length_put}
 use Rattle.session.proofs.Table.{of_test}
@@ -127,23 +127,39 @@ step_ok code k i is =
     && (covered (op_of i) (arrival code (suc k) is) (needed code k)
     && covered (op_of i) (arrival code (suc k + over_of (op_of i)) (drop (over_of (op_of i)) is)) (needed code k)))))
 
-abbrev walk : ℕ → ℕ → List Instruction → Bool
-walk code k [] = true
-walk code k (i ∷ is) = step_ok code k i is && walk code (suc k) is
+-- what the transfer that is out is made of
+abbrev sent_ok : ℕ → ℕ → Instruction → List Instruction → Bool
+sent_ok code k i is = all_in (address_part code) (sent_from code k) && all_in (sends_of i) (sent_from code k)
 
-all_ok : (code : ℕ) → walk code 0 (program_of code).steps ≡ true
+-- a test at each step of a call, counted from k
+abbrev StepTest : Type 0
+StepTest = ℕ → ℕ → Instruction → List Instruction → Bool
+
+abbrev walk : StepTest → ℕ → ℕ → List Instruction → Bool
+walk ok code k [] = true
+walk ok code k (i ∷ is) = ok code k i is && walk ok code (suc k) is
+
+all_ok : (code : ℕ) → walk step_ok code 0 (program_of code).steps ≡ true
 unfolding programs tuning needed_rows ends_of
-all_ok = of_test (λ k p. walk k 0 p.steps) (λ k. refl) refl
+all_ok = of_test (λ k p. walk step_ok k 0 p.steps) (λ k. refl) refl
 
-walk_at : (code j k : ℕ) (l : List Instruction) (i : Instruction) (is : List Instruction) → walk code j l ≡ true → drop k l ≡ i ∷ is → step_ok code (j + k) i is ≡ true
-walk_at code j zero [] i is h e = clash cc
-walk_at code j (suc k) [] i is h e = clash cc
-walk_at code j zero (x ∷ l) i is h e =
+all_sent : (code : ℕ) → walk sent_ok code 0 (program_of code).steps ≡ true
+unfolding programs tuning sent_rows
+all_sent = of_test (λ k p. walk sent_ok k 0 p.steps) (λ k. refl) refl
+
+walk_from : (ok : StepTest) (code j k : ℕ) (l : List Instruction) (i : Instruction) (is : List Instruction) → walk ok code j l ≡ true → drop k l ≡ i ∷ is → ok code (j + k) i is ≡ true
+walk_from ok code j zero [] i is h e = clash cc
+walk_from ok code j (suc k) [] i is h e = clash cc
+walk_from ok code j zero (x ∷ l) i is h e =
     let q : i ≡ x = cc in
     let q' : is ≡ l = cc in
-    rw (add-zero j, q, q') (both (step_ok code j x l) (walk code (suc j) l) h).0
-walk_at code j (suc k) (x ∷ l) i is h e =
-    rw (add-suc j k ∙ sym (suc-add j k)) (walk_at code (suc j) k l i is (both (step_ok code j x l) (walk code (suc j) l) h).1 e)
+    rw (add-zero j, q, q') (both (ok code j x l) (walk ok code (suc j) l) h).0
+walk_from ok code j (suc k) (x ∷ l) i is h e =
+    rw (add-suc j k ∙ sym (suc-add j k)) (walk_from ok code (suc j) k l i is (both (ok code j x l) (walk ok code (suc j) l) h).1 e)
+
+walk_at : (ok : StepTest) (code k : ℕ) (i : Instruction) (is : List Instruction) → walk ok code 0 (program_of code).steps ≡ true
+    → drop k (program_of code).steps ≡ i ∷ is → ok code k i is ≡ true
+walk_at ok code k i is h e = subst (λ m. ok code m i is ≡ true) (zero-add k) (walk_from ok code 0 k (program_of code).steps i is h e)
 
 -- what the test says of one step
 record Fits (code k : ℕ) (i : Instruction) (is : List Instruction) : Type 0 where
@@ -156,7 +172,7 @@ record Fits (code k : ℕ) (i : Instruction) (is : List Instruction) : Type 0 wh
 
 fits_at : (code k : ℕ) (i : Instruction) (is : List Instruction) → drop k (program_of code).steps ≡ i ∷ is → Fits code k i is
 fits_at code k i is e =
-    let h : step_ok code k i is ≡ true = subst (λ m. step_ok code m i is ≡ true) (zero-add k) (walk_at code 0 k (program_of code).steps i is (all_ok code) e) in
+    let h : step_ok code k i is ≡ true = walk_at step_ok code k i is (all_ok code) e in
     let N = needed code k in
     let o = op_of i in
     let t₁ = both (all_in (address_part code) N) _ h in
@@ -427,3 +443,42 @@ depends_on_needed s s' f bs u u' g =
     go : {o o' : Outcome} (b : Bool) → Alike o o' → Alike (cond b (refused Answer.StrayByte s) o) (cond b (refused Answer.StrayByte s') o')
     go true h = same_refusal Answer.StrayByte s s'
     go false h = h
+
+-- the transfer that a call has out at its step k
+out_at : (s : Session) (code k : ℕ) (i : Instruction) (is : List Instruction) → s.code ≡ code → s.step ≡ k → drop k (program_of code).steps ≡ i ∷ is
+    → outstanding s ≡ send_of (op_of i) (context_of s)
+out_at s code k i is e e' at =
+    let here : drop s.step (program_of s.code).steps ≡ i ∷ is = rw (e, e') at in
+    rw (drop-map op_of s.step (program_of s.code).steps ∙ ap (map op_of) here) refl
+
+pub sent_from_these : (s s' : Session) → SentFrom s s'
+sent_from_these s s' u u' g =
+    instruction_there s (sound_of s u).1 (λ i is at.
+    let x : sent_ok s.code s.step i is ≡ true = walk_at sent_ok s.code s.step i is (all_sent s.code) at in
+    let q = both (all_in (address_part s.code) (sent_from s.code s.step)) (all_in (sends_of i) (sent_from s.code s.step)) x in
+    let t : Twin s.code s s' = twins (sent_from s.code s.step) s s' g q.0 in
+    let o : On (sent_from s.code s.step) (context_of s) (context_of s') = parts_on (sent_from s.code s.step) s s' g.parts in
+    out_at s s.code s.step i is refl refl at
+    ∙ send_same i (context_of s) (context_of s') (kin_of s.code s s' t) (all_same (sends_of i) (sent_from s.code s.step) (context_of s) (context_of s') q.1 o)
+    ∙ sym (out_at s' s.code s.step i is (sym g.code) (sym g.step) at))
+
+pub ignores_read_back : (s : Session) (bs bs' : List ℕ) → IgnoresReadBack s bs bs'
+ignores_read_back s bs bs' u two h h' =
+    instruction_there s (sound_of s u).1 (λ i is at.
+    let out : outstanding s ≡ send_of (op_of i) (context_of s) = out_at s s.code s.step i is refl refl at in
+    go (op_of i) i is at refl (rw out at two) (rw out at h) (rw out at h'))
+  where
+    go : (op : Op) (i : Instruction) (is : List Instruction) → drop s.step (program_of s.code).steps ≡ i ∷ is → op_of i ≡ op
+        → 2 ≤ (send_of op (context_of s)).count
+        → zero_from (send_of op (context_of s)).reads bs ≡ true
+        → zero_from (send_of op (context_of s)).reads bs' ≡ true
+        → step_def s (reply 0 bs) ≡ step_def s (reply 0 bs')
+    go (write reg bytes len over after) i is at z two h h' =
+        let n : stray (send_of (op_of i) (context_of s)) 0 bs ≡ false = rw z (stray_is _ 0 bs ∙ ap not h) in
+        let n' : stray (send_of (op_of i) (context_of s)) 0 bs' ≡ false = rw z (stray_is _ 0 bs' ∙ ap not h') in
+        met_at s s.code s.step i is 0 bs refl refl u at
+        ∙ rw (n, n', z) refl
+        ∙ sym (met_at s s.code s.step i is 0 bs' refl refl u at)
+    go (read reg len slot over after) i is at z two h h' = absurd (omega (arith, two))
+    go (wait w) i is at z two h h' = absurd (omega (arith, two))
+    go range i is at z two h h' = absurd (omega (arith, two))
