@@ -57,6 +57,7 @@ pub mod Corollaries
 pub mod Uses
 pub mod Kept
 pub mod Needed
+pub mod Carried
 -- waits over any limit, and values
 pub mod Waits
 pub mod Bench

@@ -30,7 +30,7 @@ fresh code d adr a b = record { code = code; driver = d; address = adr; a = a; b
 abbrev pub script : ℕ → Context → Script
 script code c = decided ((program_of code).entry c) 0 c (λ n. resume (program_of code).final n (map once_of (program_of code).steps) c)
 
-spads_are : enable_ref_spads
+pub spads_are : enable_ref_spads
     ≡ (λ count aperture bytes. selected (byte 0 bytes ∷ byte 1 bytes ∷ byte 2 bytes ∷ byte 3 bytes ∷ byte 4 bytes ∷ byte 5 bytes ∷ []) count (not (eqb aperture 0)))
 unfolding enable_ref_spads
 spads_are =

@@ -1,17 +1,19 @@
 -- What holds of every session that is handed in, also one that no run leaves: a call begins with its own code, arguments and count, and a call that
 -- waits goes on in what is left of its script. 01: "arithmetic on carried bytes gives the first place in the Rust's order, also where no driver run
 -- could have left them".
-use Rattle.std.specs.Prelude.{◌≡◌, true, false, ◌&&◌, cond, eqb, leb, get_or, List, [], ◌∷◌, ◌++◌, ℕ, zero, suc, ◌+◌, ◌-◌, ◌≤◌, length, take, drop}
-use Rattle.session.specs.Bus.{byte, Driver, Transfer, Answer, Reply, bad, good, wait_limit, idle_on, zero_from, clean_from}
-use Rattle.session.specs.Instructions.{Context, stop_answer, Verdict, onward, leap, stop, test, Op, write, read, wait, range, Final, success, failure, send_of, kept_bytes, kept_failure, kept_budget, read_wins, report_of}
+use Rattle.std.specs.Prelude.{◌≡◌, true, false, ◌&&◌, cond, eqb, leb, get_or, List, [], ◌∷◌, ◌++◌, ℕ, zero, suc, ◌+◌, ◌-◌, ◌*◌, ◌/◌, ◌%◌, ◌≤◌, length, take, drop}
+use Rattle.session.specs.Bus.{byte, transfer_of, with_driver_address, with_driver_budget, Driver, Transfer, Answer, Reply, bad, good, wait_limit, idle_on, zero_from, clean_from}
+use Rattle.session.specs.Instructions.{Context, bytes_from, stop_answer, Verdict, onward, leap, stop, test, Op, write, read, wait, range, Final, success, failure, send_of, kept_bytes, kept_failure, kept_budget, read_wins, report_of}
 use Rattle.session.specs.Calls.{ops_of, program_of}
-use Rattle.session.specs.Machine.{Session, Outcome, sent, answered, refused, broken, context_of, begun, outstanding}
+use Rattle.session.specs.Machine.{Session, Outcome, sent, answered, refused, broken, resting, context_of, begun, outstanding}
 use Rattle.session.specs.Records.{call, reply, step_def}
 use Rattle.session.specs.Script.{Script, done, send, on_reply, wait_loop, cut}
 use Rattle.session.specs.Refusals.{Underway}
 use Rattle.session.specs.RustFn.{Chip, ◌>>◌}
+use Rattle.session.specs.RustClocks.{or_u8, and_u8, spad_count, type_is_aperture, threshold_raw, threshold_mm, limit_contained, limit_word}
 use Rattle.session.specs.RustCalls.{get_measurement_timing_budget, set_budget_from_reads}
-use Rattle.session.specs.RustBringUp.{method, constructed, number, flag, calibration, budget_and_calibration}
+use Rattle.session.specs.RustBringUp.{enable_ref_spads, method, constructed, number, flag, calibration, budget_and_calibration}
+use Rattle.session.specs.Claim1.{chip_address}
 use Rattle.session.specs.Claim2.{Accepted}
 
 abbrev pub keeping : Context → Op → Reply → Context
@@ -248,6 +250,83 @@ IgnoresReadBack s bs bs' =
     → zero_from (outstanding s).reads bs ≡ true
     → zero_from (outstanding s).reads bs' ≡ true
     → step_def s (reply 0 bs) ≡ step_def s (reply 0 bs')
+
+-- WRITES AND ANSWERS of carried bytes, in the formulas of lib.rs (RustClocks, RustBringUp), for all bytes. Words are sent high byte first
+abbrev pub word_sent : ℕ → List ℕ
+word_sent w = w / 256 % 256 ∷ w % 256 ∷ []
+
+abbrev pub long_sent : ℕ → List ℕ
+long_sent w = w / 16777216 % 256 ∷ w / 65536 % 256 ∷ w / 256 % 256 ∷ w % 256 ∷ []
+
+abbrev pub word_at : ℕ → List ℕ → ℕ
+word_at i l = byte i l * 256 + byte (i + 1) l
+
+-- start_continuous: the period, times the oscillator word where that is not 0. A session that no run leaves may carry one that is too long
+abbrev pub period_sent : ℕ → ℕ → ℕ
+period_sent period osc = cond (eqb osc 0) period (period * osc)
+
+-- set_signal_rate_limit: a session that no run leaves may have a limit out of range
+abbrev pub limit_sent : ℕ → ℕ
+limit_sent bits = cond (limit_contained bits) (limit_word bits) 0
+
+-- code, step, the bytes that the transfer out writes, and how many it reads back
+abbrev pub writes_of : Session → List (ℕ × ℕ × List ℕ × ℕ)
+writes_of s =
+    (1, 2, 0x89 ∷ or_u8 (byte 2 s.carried) 0x01 ∷ [], 1)
+    ∷ (1, 12, 0x60 ∷ or_u8 (byte 2 s.carried) 0x12 ∷ [], 1)
+    ∷ (1, 20, 0x83 ∷ or_u8 (byte 2 s.carried) 0x04 ∷ [], 1)
+    ∷ (1, 32, 0x83 ∷ and_u8 (byte 2 s.carried) 0xFB ∷ [], 1)
+    ∷ (1, 43, 0xB0 ∷ bytes_from 0 6 (enable_ref_spads (spad_count (byte 3 s.carried)) (type_is_aperture (byte 3 s.carried)) (bytes_from 16 6 s.carried)), 6)
+    ∷ (1, 126, 0x84 ∷ and_u8 (byte 2 s.carried) 0xEF ∷ [], 1)
+    ∷ (3, 0, 0x8A ∷ s.a ∷ [], 0)
+    ∷ (4, 3, 0x91 ∷ s.driver.stop ∷ [], 1)
+    ∷ (4, 8, 0x04 ∷ long_sent (period_sent s.a (word_at 8 s.carried)), 1)
+    ∷ (4, 9, 0x00 ∷ cond (eqb s.a 0) 0x02 0x04 ∷ [], 1)
+    ∷ (8, 3, 0x91 ∷ s.driver.stop ∷ [], 1)
+    ∷ (10, 0, 0x0E ∷ word_sent (threshold_raw s.a), 1)
+    ∷ (10, 1, 0x0C ∷ word_sent (threshold_raw s.b), 1)
+    ∷ (12, 0, 0x0A ∷ get_or (0x04 ∷ 0x01 ∷ 0x02 ∷ 0x03 ∷ []) s.a 0 ∷ [], 1)
+    ∷ (12, 2, 0x84 ∷ cond (eqb s.b 0) (and_u8 (byte 2 s.carried) 0xEF) (or_u8 (byte 2 s.carried) 0x10) ∷ [], 1)
+    ∷ (14, 0, 0x44 ∷ word_sent (limit_sent s.a), 1)
+    ∷ []
+
+abbrev pub EachWrite : Session → List (ℕ × ℕ × List ℕ × ℕ) → Type 0
+EachWrite s [] = Unit {0}
+EachWrite s (r ∷ rs) = (s.code ≡ r.0 → s.step ≡ r.1 → outstanding s ≡ transfer_of (chip_address s) r.2 r.3) × EachWrite s rs
+
+-- the range word, or the failure code of its read
+abbrev pub range_answer : Session → Answer
+range_answer s = cond (eqb s.failed 0) (Answer.Done (word_at 4 s.carried)) (Answer.BusError s.failed)
+
+-- code, last step, and the answer and fields that a good reply there gives
+abbrev pub answers_of : Session → List ℕ → List (ℕ × ℕ × Answer × Driver)
+answers_of s bs =
+    (1, 155, Answer.Done 0, record { up = true; address = s.a; stop = byte 1 s.carried; budget = s.own })
+    ∷ (2, 0, Answer.Done (byte 0 bs), s.driver)
+    ∷ (3, 0, Answer.Done 0, with_driver_address s.driver s.a)
+    ∷ (4, 9, Answer.Done 0, s.driver)
+    ∷ (5, 5, Answer.Done 0, s.driver)
+    ∷ (6, 3, range_answer s, s.driver)
+    ∷ (7, 3, range_answer s, s.driver)
+    ∷ (8, 12, range_answer s, s.driver)
+    ∷ (9, 6, Answer.Done 0, with_driver_budget s.driver s.a)
+    ∷ (10, 1, Answer.Done 0, s.driver)
+    ∷ (11, 1, Answer.Done (threshold_mm (word_at 8 s.carried) * 65536 + threshold_mm (word_at 0 bs)), s.driver)
+    ∷ (12, 4, Answer.Done 0, s.driver)
+    ∷ (13, 1, Answer.Done 0, s.driver)
+    ∷ (14, 0, Answer.Done 0, s.driver)
+    ∷ []
+
+abbrev pub EachAnswer : Session → List ℕ → List (ℕ × ℕ × Answer × Driver) → Type 0
+EachAnswer s bs [] = Unit {0}
+EachAnswer s bs (r ∷ rs) =
+    (s.code ≡ r.0 → s.step ≡ r.1 → step_def s (reply 0 bs) ≡ answered r.2 s.transfers (resting r.3)) × EachAnswer s bs rs
+
+abbrev pub CarriedWrites : Session → Type 0
+CarriedWrites s = EachWrite s (writes_of s)
+
+abbrev pub CarriedAnswers : Session → List ℕ → Type 0
+CarriedAnswers s bs = Underway s → length s.carried ≡ 24 → zero_from (outstanding s).reads bs ≡ true → EachAnswer s bs (answers_of s bs)
 
 -- THE BUDGET READS, for all bytes. The six replies that the carried bytes from slot k on are, in the Rust's order
 abbrev pub budget_replies : ℕ → List ℕ → List Reply
