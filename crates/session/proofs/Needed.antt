@@ -420,7 +420,7 @@ twins ps s s' g h =
     speaks false e = rw (← g.code, e, g.driver e) refl
 
 -- a reply to the call of the code, at its step k
-met_at : (s : Session) (code k : ℕ) (i : Instruction) (is : List Instruction) (f : ℕ) (bs : List ℕ) → s.code ≡ code → s.step ≡ k → Underway s
+pub met_at : (s : Session) (code k : ℕ) (i : Instruction) (is : List Instruction) (f : ℕ) (bs : List ℕ) → s.code ≡ code → s.step ≡ k → Underway s
     → drop k (program_of code).steps ≡ i ∷ is
     → step_def s (reply f bs) ≡ cond (stray (send_of (op_of i) (context_of s)) f bs) (refused Answer.StrayByte s) (react (op_of i) (program_of code) s (to_reply f bs))
 unfolding reply_def step_def
@@ -445,7 +445,7 @@ depends_on_needed s s' f bs u u' g =
     go false h = h
 
 -- the transfer that a call has out at its step k
-out_at : (s : Session) (code k : ℕ) (i : Instruction) (is : List Instruction) → s.code ≡ code → s.step ≡ k → drop k (program_of code).steps ≡ i ∷ is
+pub out_at : (s : Session) (code k : ℕ) (i : Instruction) (is : List Instruction) → s.code ≡ code → s.step ≡ k → drop k (program_of code).steps ≡ i ∷ is
     → outstanding s ≡ send_of (op_of i) (context_of s)
 out_at s code k i is e e' at =
     let here : drop s.step (program_of s.code).steps ≡ i ∷ is = rw (e, e') at in
