@@ -16,7 +16,7 @@ use Rattle.session.specs.Instructions.{Context, Op, write, read, wait, range, by
 use Rattle.session.specs.AnySession.{keeping, Part, byte_in, range_byte_in, failure_code, own_budget, argument_a, argument_b, bytes_in}
 use Rattle.session.proofs.Facts.{both, clash}
 use Rattle.session.proofs.Slots.{length_from, under, above, length_put}
-use Rattle.session.proofs.Uses.{part_in, On, Kin, bytes_same}
+use Rattle.session.proofs.Uses.{part_in, On}
 
 -- a byte that is stored is there in both, or past the end of both
 stored : (l l' : List ℕ) (k a : ℕ) → length l ≡ length l' → byte k (set l k a) ≡ byte k (set l' k a)
@@ -107,9 +107,9 @@ Goes (wait w) r = Unit {0}
 Goes range r = Unit {0}
 
 -- the budget that the last of the first six replies gives
-budget_kept : (len : ℕ) (c c' : Context) (bs : List ℕ) → Kin c c' → leb 1 len ≡ true → On (bytes_in 8 7) c c'
+budget_same : (len : ℕ) (c c' : Context) (bs : List ℕ) → length c.carried ≡ length c'.carried → leb 1 len ≡ true → On (bytes_in 8 7) c c'
     → budget_in 8 (put c.carried 15 (bytes_from 0 len bs)) ≡ budget_in 8 (put c'.carried 15 (bytes_from 0 len bs))
-budget_kept len c c' bs m h o = ap (λ l. (time_in (measurement_timing_budget (registers_of l))).0) (eight 7 8 refl o)
+budget_same len c c' bs m h o = ap (λ l. (time_in (measurement_timing_budget (registers_of l))).0) (eight 7 8 refl o)
   where
     vs : List ℕ
     vs = bytes_from 0 len bs
@@ -119,29 +119,29 @@ budget_kept len c c' bs m h o = ap (λ l. (time_in (measurement_timing_budget (r
         let one : 1 ≤ len = leb-true 1 len h in
         let at : i ≡ 15 = omega (arith, e) in
         let lt : i < 15 + length vs = rw (length_from 0 len bs) (omega (arith, one, at)) in
-        rw (inside vs c.carried c'.carried 15 i m.room (omega (arith, at)) lt) refl
+        rw (inside vs c.carried c'.carried 15 i m (omega (arith, at)) lt) refl
     eight (suc n) i e o =
         let lt : i < 15 = omega (arith, e) in
         rw (under vs c.carried 15 i lt, under vs c'.carried 15 i lt, o.0, eight n (suc i) (omega (arith, e)) o.1) refl
 
-pub brought : (op : Op) (r : Reply) (p : Part) (c c' : Context) → Goes op r → Kin c c' → On (sources op) c c' → brings op p ≡ true
+pub brought : (op : Op) (r : Reply) (p : Part) (c c' : Context) → Goes op r → length c.carried ≡ length c'.carried → On (sources op) c c' → brings op p ≡ true
     → part_in p (keeping c op r) ≡ part_in p (keeping c' op r)
 brought (write reg bytes len over after) r p c c' g m o h = clash cc
 brought (read reg len slot over after) (bad e) p c c' g m o h = absurd g
-brought (read reg len slot over after) (good bs) (byte_in i) c c' g m o h = within_both i slot len c.carried c'.carried bs m.room h
+brought (read reg len slot over after) (good bs) (byte_in i) c c' g m o h = within_both i slot len c.carried c'.carried bs m h
 brought (read reg len slot over after) (good bs) (range_byte_in i) c c' g m o h = clash cc
 brought (read reg len slot over after) (good bs) failure_code c c' g m o h = clash cc
 brought (read reg len slot over after) (good bs) own_budget c c' g m o h =
     let q = both (eqb slot 15) (leb 1 len) h in
     let at : slot ≡ 15 = eqb-true slot 15 q.0 in
     let o' : On (bytes_in 8 7) c c' = rw q.0 at o in
-    rw (at) (budget_kept len c c' bs m q.1 o')
+    rw (at) (budget_same len c c' bs m q.1 o')
 brought (read reg len slot over after) (good bs) argument_a c c' g m o h = clash cc
 brought (read reg len slot over after) (good bs) argument_b c c' g m o h = clash cc
 brought (wait w) r p c c' g m o h = clash cc
 brought range r (byte_in i) c c' g m o h = clash cc
 brought range (bad e) (range_byte_in i) c c' g m o h = rw (ne_eqb (suc e) 0 (λ z. omega (arith, z))) refl
-brought range (good bs) (range_byte_in i) c c' g m o h = within_both i 4 2 c.carried c'.carried bs m.room h
+brought range (good bs) (range_byte_in i) c c' g m o h = within_both i 4 2 c.carried c'.carried bs m h
 brought range (bad e) failure_code c c' g m o h = refl
 brought range (good bs) failure_code c c' g m o h = refl
 brought range r own_budget c c' g m o h = clash cc

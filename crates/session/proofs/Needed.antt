@@ -88,7 +88,7 @@ abbrev covered : Op → List Part → List Part → Bool
 covered op [] qs = true
 covered op (p ∷ ps) qs = (brings op p || (leaves op p && has p qs)) && covered op ps qs
 
-covered_on : (op : Op) (r : Reply) (ps qs : List Part) (c c' : Context) → Goes op r → Kin c c' → all_in (sources op) qs ≡ true → On qs c c'
+covered_on : (op : Op) (r : Reply) (ps qs : List Part) (c c' : Context) → Goes op r → length c.carried ≡ length c'.carried → all_in (sources op) qs ≡ true → On qs c c'
     → covered op ps qs ≡ true → On ps (keeping c op r) (keeping c' op r)
 covered_on op r [] qs c c' g m s o h = tt
 covered_on op r (p ∷ ps) qs c c' g m s o h =
@@ -299,7 +299,7 @@ module _ (code : ℕ) where
 
     kept_on : (r : Reply) (ps : List Part) → Goes (op_of i) r → covered (op_of i) ps (needed code k) ≡ true
         → On ps (context_of (kept_of s (op_of i) r)) (context_of (kept_of s' (op_of i) r))
-    kept_on r ps g h = covered_on (op_of i) r ps (needed code k) (context_of s) (context_of s') g (kin_of code s s' t) fits.made_of o h
+    kept_on r ps g h = covered_on (op_of i) r ps (needed code k) (context_of s) (context_of s') g t.room fits.made_of o h
 
     next_on : (r : Reply) → Goes (op_of i) r
         → On (arrival code (suc k) (drop (suc k) prog.steps)) (context_of (kept_of s (op_of i) r)) (context_of (kept_of s' (op_of i) r))

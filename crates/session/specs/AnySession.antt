@@ -1,8 +1,9 @@
 -- What holds of every session that is handed in, also one that no run leaves: a call begins with its own code, arguments and count, and a call that
 -- waits goes on in what is left of its script. 01: "arithmetic on carried bytes gives the first place in the Rust's order, also where no driver run
 -- could have left them".
-use Rattle.std.specs.Prelude.{◌≡◌, true, false, ◌&&◌, cond, eqb, leb, get_or, List, [], ◌∷◌, ◌++◌, ℕ, zero, suc, ◌+◌, ◌-◌, ◌*◌, ◌/◌, ◌%◌, ◌≤◌, length, take, drop}
-use Rattle.session.specs.Bus.{byte, transfer_of, with_driver_address, with_driver_budget, Driver, Transfer, Answer, Reply, bad, good, wait_limit, idle_on, zero_from, clean_from}
+use Rattle.std.specs.Prelude.{◌≡◌, Bool, true, false, ◌&&◌, ◌||◌, cond, eqb, leb, get_or, List, [], ◌∷◌, ◌++◌, ℕ, zero, suc, ◌+◌, ◌-◌, ◌*◌, ◌/◌, ◌%◌, ◌≤◌, length, take, drop}
+use Rattle.std.proofs.lemmas.List.Edits.{sets}
+use Rattle.session.specs.Bus.{byte, transfer_of, with_driver_address, with_driver_budget, Driver, Transfer, Answer, Reply, bad, good, wait_limit, idle_on, zero_from, clean_from, number_of}
 use Rattle.session.specs.Instructions.{Context, bytes_from, stop_answer, Verdict, onward, leap, stop, test, Op, write, read, wait, range, Final, success, failure, send_of, kept_bytes, kept_failure, kept_budget, read_wins, report_of}
 use Rattle.session.specs.Calls.{ops_of, program_of}
 use Rattle.session.specs.Machine.{Session, Outcome, sent, answered, refused, broken, resting, context_of, begun, outstanding}
@@ -147,6 +148,10 @@ budget_rows first k =
 abbrev pub range_rows : ℕ → Rows
 range_rows first = (first, first + 1, failure_code ∷ range_byte_in 4 ∷ range_byte_in 5 ∷ []) ∷ []
 
+abbrev pub budget_kept : ℕ → ℕ → List (ℕ × ℕ × ℕ)
+budget_kept first k =
+    (first, k, 1) ∷ (first + 1, k + 1, 2) ∷ (first + 2, k + 3, 2) ∷ (first + 3, k + 5, 1) ∷ (first + 4, k + 6, 1) ∷ (first + 5, k + 7, 1) ∷ []
+
 -- by code: what a reply at a step, and all that comes after it, may depend on. Slots: 1 the stop byte, 3 the byte of 0x92, 4 the range word,
 -- 8 the first budget replies and the low threshold, 16 the map and then the second budget replies
 unfoldable pub needed_rows : List Rows
@@ -204,6 +209,27 @@ sent_rows =
     ∷ []
     ∷ []
 
+-- by code: what the course of a call looks at when a reply is good: whether it goes on, and to which step, or the number of its answer
+unfoldable pub course_rows : List Rows
+course_rows =
+    []
+    ∷ ((135, 135, own_budget ∷ []) ∷ (141, 141, own_budget ∷ []) ∷ budget_rows 129 8 ++ budget_rows 136 16)
+    ∷ []
+    ∷ []
+    ∷ ((6, 7, argument_a ∷ []) ∷ [])
+    ∷ []
+    ∷ ((3, 3, failure_code ∷ []) ∷ [])
+    ∷ ((3, 3, failure_code ∷ []) ∷ [])
+    ∷ ((12, 12, failure_code ∷ []) ∷ [])
+    ∷ ((5, 5, argument_a ∷ []) ∷ budget_rows 0 8)
+    ∷ []
+    ∷ []
+    ∷ []
+    ∷ []
+    ∷ []
+    ∷ budget_rows 0 8
+    ∷ []
+
 abbrev pub parts_at : ℕ → Rows → List Part
 parts_at step [] = []
 parts_at step (r ∷ rs) = cond (leb r.0 step && leb step r.1) (r.2 ++ parts_at step rs) (parts_at step rs)
@@ -213,6 +239,9 @@ needed code step = parts_at step (get_or needed_rows code [])
 
 abbrev pub sent_from : ℕ → ℕ → List Part
 sent_from code step = parts_at step (get_or sent_rows code [])
+
+abbrev pub looked_at : ℕ → ℕ → List Part
+looked_at code step = parts_at step (get_or course_rows code [])
 
 abbrev pub AllSame : List Part → Session → Session → Type 0
 AllSame [] s s' = Unit {0}
@@ -239,6 +268,63 @@ pub data Alike : Outcome → Outcome → Type 0 where
 -- a reply depends on the parts that are needed, and on nothing else; so does all that comes after it
 abbrev pub DependsOnNeeded : Session → Session → ℕ → List ℕ → Type 0
 DependsOnNeeded s s' f bs = Underway s → Underway s' → Agree s s' → Alike (step_def s (reply f bs)) (step_def s' (reply f bs))
+
+-- two outcomes of one course: both calls go on at the same step, or both end with an answer of the same number
+pub data SameCourse : Outcome → Outcome → Type 0 where
+  both_go_on : (t t' : Transfer) (s s' : Session) → s.step ≡ s'.step → s.idle ≡ s'.idle → SameCourse (sent t s) (sent t' s')
+  both_end : (x x' : Answer) (n n' : ℕ) (s s' : Session) → number_of x ≡ number_of x' → SameCourse (answered x n s) (answered x' n' s')
+  both_refuse : (x : Answer) (s s' : Session) → SameCourse (refused x s) (refused x s')
+
+abbrev pub CourseLooksAt : Session → Session → ℕ → List ℕ → Type 0
+CourseLooksAt s s' f bs =
+    Underway s → Underway s' → AgreeOn (looked_at s.code s.step) s s' → SameCourse (step_def s (reply f bs)) (step_def s' (reply f bs))
+
+-- by code: the step at which a good reply is kept, the slot, and how many bytes
+unfoldable pub kept_rows : List (List (ℕ × ℕ × ℕ))
+kept_rows =
+    []
+    ∷ ((0, 0, 1) ∷ (1, 2, 1) ∷ (7, 1, 1) ∷ (11, 2, 1) ∷ (19, 2, 1) ∷ (28, 3, 1) ∷ (31, 2, 1) ∷ (37, 16, 6) ∷ (125, 2, 1)
+    ∷ budget_kept 129 8
+    ++ budget_kept 136 16)
+    ∷ ((0, 0, 1) ∷ [])
+    ∷ []
+    ∷ ((7, 8, 2) ∷ [])
+    ∷ []
+    ∷ ((0, 2, 1) ∷ (1, 4, 2) ∷ [])
+    ∷ ((1, 4, 2) ∷ [])
+    ∷ ((10, 4, 2) ∷ [])
+    ∷ budget_kept 0 8
+    ∷ []
+    ∷ ((0, 8, 2) ∷ (1, 10, 2) ∷ [])
+    ∷ ((1, 2, 1) ∷ [])
+    ∷ []
+    ∷ []
+    ∷ budget_kept 0 8
+    ∷ []
+
+abbrev pub kept_at : ℕ → List (ℕ × ℕ × ℕ) → List ℕ → List ℕ → List ℕ
+kept_at step [] l bs = l
+kept_at step (r ∷ rs) l bs = cond (eqb r.0 step) (sets l r.1 (bytes_from 0 r.2 bs)) (kept_at step rs l bs)
+
+-- the range reads, and the last of a bring-up's first budget reads, after which the budget is kept too
+abbrev pub reads_range_at : ℕ → ℕ → Bool
+reads_range_at code step = (eqb code 6 && eqb step 1) || (eqb code 7 && eqb step 1) || (eqb code 8 && eqb step 10)
+
+abbrev pub gives_budget : ℕ → ℕ → Bool
+gives_budget code step = eqb code 1 && eqb step 134
+
+-- a call that goes on keeps what it carries but for this
+abbrev pub Keeps : Session → ℕ → List ℕ → Outcome → Type 0
+Keeps s f bs (sent t s') =
+    (s'.carried ≡ cond (eqb f 0) (kept_at s.step (get_or kept_rows s.code []) s.carried bs) s.carried)
+    × (s'.failed ≡ cond (reads_range_at s.code s.step) f s.failed)
+    × (s.code ≡ 1 → gives_budget s.code s.step ≡ false → s'.own ≡ s.own)
+Keeps s f bs (answered x n s') = Unit {0}
+Keeps s f bs (refused x s') = Unit {0}
+Keeps s f bs (broken s') = Unit {0}
+
+abbrev pub KeepsTheRest : Session → ℕ → List ℕ → Type 0
+KeepsTheRest s f bs = Underway s → Keeps s f bs (step_def s (reply f bs))
 
 abbrev pub SentFrom : Session → Session → Type 0
 SentFrom s s' = Underway s → Underway s' → AgreeOn (sent_from s.code s.step) s s' → outstanding s ≡ outstanding s'
