@@ -1,26 +1,25 @@
 -- What is written and answered of carried bytes is lib.rs's formula of them.
-use mathlib.Core.Path.{◌≡◌, refl, sym, ap, ◌∙◌}
+use mathlib.Core.Path.{◌≡◌, refl, ap, ◌∙◌}
 use mathlib.Core.Bool.{Bool, true, false, not, cond}
 use mathlib.Core.List.{List, [], ◌∷◌}
-use Prim.Native.Nat.{ℕ, zero, suc, ◌+◌, ◌*◌}
+use Prim.Native.Nat.{ℕ, zero, suc}
 use native.Mathlib.Omega.{arith}
 use lib.Dec.{eqb}
 use borrow.Author.Tests.{ne_eqb}
-use lib.ListN.{length, drop}
-use Rattle.spad.specs.Masks.{each_bit, or_byte}
+use lib.ListN.{drop}
 use Rattle.rate.specs.Rate.{signal_rate_limit_word}
-use Rattle.session.specs.Bus.{byte, Driver, Answer, Reply, good, transfer_of, zero_from}
+use Rattle.session.specs.Bus.{Driver, Answer, good, zero_from}
 use Rattle.session.specs.Instructions.{Instruction, range_slot, bytes_from, send_of}
 use Rattle.session.specs.Steps.{slot_word, rate_in, op_of}
 use Rattle.session.specs.Calls.{tuning, by_code, finishes, range_result, programs, program_of}
-use Rattle.session.specs.Machine.{Session, Outcome, answered, resting, held_by, context_of, conclude, arrive, react, stray, outstanding}
+use Rattle.session.specs.Machine.{Session, answered, resting, held_by, context_of, conclude, arrive, react, stray, outstanding}
 use Rattle.session.specs.Records.{reply, step_def}
 use Rattle.session.specs.Refusals.{Underway}
 use Rattle.session.specs.RustClocks.{limit_contained, limit_word}
 use Rattle.session.specs.AnySession.{limit_sent, word_at, range_answer, CarriedWrites, CarriedAnswers}
 use Rattle.session.proofs.Cut.{stray_is}
 use Rattle.session.proofs.Slots.{under, within}
-use Rattle.session.proofs.Needed.{met_at, out_at}
+use Rattle.session.proofs.Pairs.{met_at, out_at}
 use Rattle.session.proofs.Bits.{or_is, and_is, spad_count_is, aperture_is, raw_is, mm_is}
 use Rattle.session.proofs.RateLimit.{accepted_is, refused_is}
 use Rattle.session.proofs.Same.{spads_are}
@@ -34,24 +33,55 @@ limit_is bits = go (limit_contained bits) refl
 
 pub carried_writes : (s : Session) → CarriedWrites s
 unfolding program_of programs tuning
-carried_writes s =
-    (λ e e'. rw (e, e', or_is) refl,
-    (λ e e'. rw (e, e', or_is) refl,
-    (λ e e'. rw (e, e', or_is) refl,
-    (λ e e'. rw (e, e', and_is) refl,
-    (λ e e'. rw (e, e', spads_are, spad_count_is, aperture_is) refl,
-    (λ e e'. rw (e, e', and_is) refl,
-    (λ e e'. rw (e, e') refl,
-    (λ e e'. rw (e, e') refl,
-    (λ e e'. rw (e, e') refl,
-    (λ e e'. rw (e, e') refl,
-    (λ e e'. rw (e, e') refl,
-    (λ e e'. rw (e, e', raw_is) refl,
-    (λ e e'. rw (e, e', raw_is) refl,
-    (λ e e'. rw (e, e') refl,
-    (λ e e'. rw (e, e', and_is, or_is) refl,
-    (λ e e'. rw (e, e', limit_is s.a) refl,
-    tt))))))))))))))))
+carried_writes s = (
+  λ e e'. rw (e, e', or_is) refl,
+  (
+    λ e e'. rw (e, e', or_is) refl,
+    (
+      λ e e'. rw (e, e', or_is) refl,
+      (
+        λ e e'. rw (e, e', and_is) refl,
+        (
+          λ e e'. rw (e, e', spads_are, spad_count_is, aperture_is) refl,
+          (
+            λ e e'. rw (e, e', and_is) refl,
+            (
+              λ e e'. rw (e, e') refl,
+              (
+                λ e e'. rw (e, e') refl,
+                (
+                  λ e e'. rw (e, e') refl,
+                  (
+                    λ e e'. rw (e, e') refl,
+                    (
+                      λ e e'. rw (e, e') refl,
+                      (
+                        λ e e'. rw (e, e', raw_is) refl,
+                        (
+                          λ e e'. rw (e, e', raw_is) refl,
+                          (
+                            λ e e'. rw (e, e') refl,
+                            (
+                              λ e e'. rw (e, e', and_is, or_is) refl,
+                              (
+                                λ e e'. rw (e, e', limit_is s.a) refl,
+                                tt,
+                              ),
+                            ),
+                          ),
+                        ),
+                      ),
+                    ),
+                  ),
+                ),
+              ),
+            ),
+          ),
+        ),
+      ),
+    ),
+  ),
+)
 
 -- a good reply to the last instruction of a call
 module _ (s : Session) (bs : List ℕ) (u : Underway s) (clean : zero_from (outstanding s).reads bs ≡ true) where
@@ -73,19 +103,46 @@ range_is s = go s.failed refl
 
 pub carried_answers : (s : Session) (bs : List ℕ) → CarriedAnswers s bs
 unfolding program_of programs tuning arrive
-carried_answers s bs u long clean =
-    (at_last s bs u clean 1 155 (Instruction.Write 0x01 0xE8) _ _ refl (λ e e'. rw (e, e') refl),
-    (at_last s bs u clean 2 0 (Instruction.Read 0xC0 0) _ _ refl (λ e e'. rw (e, e', within (bytes_from 0 1 bs) s.carried 0 0 (omega arith) (omega (arith, long))) refl),
-    (at_last s bs u clean 3 0 Instruction.WriteAddress _ _ refl (λ e e'. rw (e, e') refl),
-    (at_last s bs u clean 4 9 Instruction.WriteMode _ _ refl (λ e e'. rw (e, e') refl),
-    (at_last s bs u clean 5 5 (Instruction.Write 0xFF 0x00) _ _ refl (λ e e'. rw (e, e') refl),
-    (at_last s bs u clean 6 3 (Instruction.Write 0x0B 0x00) _ _ refl (λ e e'. rw (e, e') (rw (e, e') at (range_is s))),
-    (at_last s bs u clean 7 3 (Instruction.Write 0x0B 0x00) _ _ refl (λ e e'. rw (e, e') (rw (e, e') at (range_is s))),
-    (at_last s bs u clean 8 12 (Instruction.Write 0x0B 0x00) _ _ refl (λ e e'. rw (e, e') (rw (e, e') at (range_is s))),
-    (at_last s bs u clean 9 6 (Instruction.WriteWord 8) _ _ refl (λ e e'. rw (e, e') refl),
-    (at_last s bs u clean 10 1 Instruction.WriteHigh _ _ refl (λ e e'. rw (e, e') refl),
-    (at_last s bs u clean 11 1 (Instruction.ReadWord 0x0C 10) _ _ refl (λ e e'. rw (e, e', mm_is, under (bytes_from 0 2 bs) s.carried 10 8 (omega arith), under (bytes_from 0 2 bs) s.carried 10 9 (omega arith), within (bytes_from 0 2 bs) s.carried 10 0 (omega arith) (omega (arith, long)), within (bytes_from 0 2 bs) s.carried 10 1 (omega arith) (omega (arith, long))) refl),
-    (at_last s bs u clean 12 4 (Instruction.Write 0x0B 0x00) _ _ refl (λ e e'. rw (e, e') refl),
-    (at_last s bs u clean 13 1 (Instruction.Write 0x0B 0x00) _ _ refl (λ e e'. rw (e, e') refl),
-    (at_last s bs u clean 14 0 Instruction.WriteRate _ _ refl (λ e e'. rw (e, e') refl),
-    tt))))))))))))))
+carried_answers s bs u long clean = (
+  at_last s bs u clean 1 155 (Instruction.Write 0x01 0xE8) _ _ refl (λ e e'. rw (e, e') refl),
+  (
+    at_last s bs u clean 2 0 (Instruction.Read 0xC0 0) _ _ refl (λ e e'. rw (e, e', within (bytes_from 0 1 bs) s.carried 0 0 (omega arith) (omega (arith, long))) refl),
+    (
+      at_last s bs u clean 3 0 Instruction.WriteAddress _ _ refl (λ e e'. rw (e, e') refl),
+      (
+        at_last s bs u clean 4 9 Instruction.WriteMode _ _ refl (λ e e'. rw (e, e') refl),
+        (
+          at_last s bs u clean 5 5 (Instruction.Write 0xFF 0x00) _ _ refl (λ e e'. rw (e, e') refl),
+          (
+            at_last s bs u clean 6 3 (Instruction.Write 0x0B 0x00) _ _ refl (λ e e'. rw (e, e') (rw (e, e') at (range_is s))),
+            (
+              at_last s bs u clean 7 3 (Instruction.Write 0x0B 0x00) _ _ refl (λ e e'. rw (e, e') (rw (e, e') at (range_is s))),
+              (
+                at_last s bs u clean 8 12 (Instruction.Write 0x0B 0x00) _ _ refl (λ e e'. rw (e, e') (rw (e, e') at (range_is s))),
+                (
+                  at_last s bs u clean 9 6 (Instruction.WriteWord 8) _ _ refl (λ e e'. rw (e, e') refl),
+                  (
+                    at_last s bs u clean 10 1 Instruction.WriteHigh _ _ refl (λ e e'. rw (e, e') refl),
+                    (
+                      at_last s bs u clean 11 1 (Instruction.ReadWord 0x0C 10) _ _ refl (λ e e'. rw (e, e', mm_is, under (bytes_from 0 2 bs) s.carried 10 8 (omega arith), under (bytes_from 0 2 bs) s.carried 10 9 (omega arith), within (bytes_from 0 2 bs) s.carried 10 0 (omega arith) (omega (arith, long)), within (bytes_from 0 2 bs) s.carried 10 1 (omega arith) (omega (arith, long))) refl),
+                      (
+                        at_last s bs u clean 12 4 (Instruction.Write 0x0B 0x00) _ _ refl (λ e e'. rw (e, e') refl),
+                        (
+                          at_last s bs u clean 13 1 (Instruction.Write 0x0B 0x00) _ _ refl (λ e e'. rw (e, e') refl),
+                          (
+                            at_last s bs u clean 14 0 Instruction.WriteRate _ _ refl (λ e e'. rw (e, e') refl),
+                            tt,
+                          ),
+                        ),
+                      ),
+                    ),
+                  ),
+                ),
+              ),
+            ),
+          ),
+        ),
+      ),
+    ),
+  ),
+)

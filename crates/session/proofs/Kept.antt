@@ -4,18 +4,18 @@ use mathlib.Core.Bool.{Bool, true, false, not, ◌||◌, ◌&&◌, cond}
 use mathlib.Core.List.{List, [], ◌∷◌}
 use Prim.Native.Nat.{ℕ, zero, suc, ◌+◌, ◌≤◌, ◌<◌}
 use native.Mathlib.Omega.{arith}
-use borrow.Author.Tests.{leb-true, leb-false, ltb-true, eqb-true, eqb-false, not-true, ne_eqb}
+use borrow.Author.Tests.{leb-true, ltb-true, eqb-true, eqb-false, not-true, ne_eqb}
 use lib.Dec.{eqb, leb, ltb}
-use lib.ListN.{length, get_or, set, length-set}
-use lib.Seq.{sets, get_or-set_same, get_or-set_other}
+use lib.ListN.{length, set, length-set}
+use lib.Seq.{sets}
 use Rattle.timing.specs.Registers.{registers_of}
 use Rattle.timing.specs.Timeouts.{time_in}
 use Rattle.budget.specs.Budget.{measurement_timing_budget}
 use Rattle.session.specs.Bus.{byte, Reply, bad, good}
-use Rattle.session.specs.Instructions.{Context, Op, write, read, wait, range, bytes_from, put, budget_in, kept_bytes, kept_failure, kept_budget}
+use Rattle.session.specs.Instructions.{Context, Op, write, read, wait, range, bytes_from, put, budget_in}
 use Rattle.session.specs.AnySession.{keeping, Part, byte_in, range_byte_in, failure_code, own_budget, argument_a, argument_b, bytes_in}
 use Rattle.session.proofs.Facts.{both, clash}
-use Rattle.session.proofs.Slots.{length_from, under, above, length_put}
+use Rattle.session.proofs.Slots.{length_from, under, above}
 use Rattle.session.proofs.Uses.{part_in, On}
 
 -- a byte that is stored is there in both, or past the end of both

@@ -56,6 +56,7 @@ pub mod Corollaries
 -- every session that is handed in
 pub mod Uses
 pub mod Kept
+pub mod Pairs
 pub mod Needed
 pub mod Carried
 -- waits over any limit, and values

@@ -1,8 +1,8 @@
 -- What each instruction looks at of what a call carries: in the bytes that it sends, and in what a good reply decides.
 use mathlib.Core.Path.{◌≡◌, refl, sym, ap, ◌∙◌}
-use mathlib.Core.Bool.{Bool, true, false, cond, ◌&&◌, ◌||◌}
-use mathlib.Core.List.{List, [], ◌∷◌, ◌++◌}
-use Prim.Native.Nat.{ℕ, zero, suc, ◌+◌, ◌≤◌}
+use mathlib.Core.Bool.{Bool, true, false, cond}
+use mathlib.Core.List.{List, [], ◌∷◌}
+use Prim.Native.Nat.{ℕ, zero, suc, ◌≤◌}
 use native.Mathlib.Omega.{arith}
 use lib.Dec.{eqb, leb}
 use lib.ListN.{length, get_or}
@@ -10,8 +10,8 @@ use borrow.Author.Tests.{leb-true}
 use Rattle.timing.specs.Registers.{registers_of}
 use Rattle.timing.specs.Places.{first_place}
 use Rattle.budget.specs.Budget.{final_range_word}
-use Rattle.session.specs.Bus.{byte, Driver}
-use Rattle.session.specs.Instructions.{Instruction, Context, Verdict, Op, write, read, wait, range, Final, second_slot, bytes_from, timing_in}
+use Rattle.session.specs.Bus.{byte}
+use Rattle.session.specs.Instructions.{Instruction, Context, Op, write, read, wait, range, second_slot, bytes_from, timing_in}
 use Rattle.session.specs.Steps.{by_place, by_word, dss_of_call9, budget_to_set, word_to_set, no_time, timing_place, op_of}
 use Rattle.session.specs.Calls.{Program, range_result, programs, program_of}
 use Rattle.session.specs.AnySession.{Part, byte_in, range_byte_in, failure_code, own_budget, argument_a, argument_b, bytes_in}
@@ -246,21 +246,52 @@ range_ends c c' m h = go c.failed c'.failed refl refl h
 pub ends_from : (code : ℕ) (c c' : Context) → Kin c c' → On (end_of code) c c' → (program_of code).final c ≡ (program_of code).final c'
 unfolding programs ends_of
 ends_from =
-    of_table EndsFrom (λ k c c' m h. refl)
-    (λ c c' m h. refl,
-    (λ c c' m h. rw (h.0, h.1.0, h.1.1.0) refl,
-    (λ c c' m h. rw (m.driver, h.0) refl,
-    (λ c c' m h. rw (m.driver, h.0) refl,
-    (λ c c' m h. rw m.driver refl,
-    (λ c c' m h. rw m.driver refl,
-    (range_ends,
-    (range_ends,
-    (range_ends,
-    (λ c c' m h. rw (m.driver, h.0) refl,
-    (λ c c' m h. rw m.driver refl,
-    (λ c c' m h. rw (m.driver, h.0, h.1.0, h.1.1.0, h.1.1.1.0) refl,
-    (λ c c' m h. rw m.driver refl,
-    (λ c c' m h. rw m.driver refl,
-    (λ c c' m h. rw m.driver refl,
-    (λ c c' m h. rw (m.driver, h.0) refl,
-    tt))))))))))))))))
+    of_table EndsFrom (λ k c c' m h. refl) (
+      λ c c' m h. refl,
+      (
+        λ c c' m h. rw (h.0, h.1.0, h.1.1.0) refl,
+        (
+          λ c c' m h. rw (m.driver, h.0) refl,
+          (
+            λ c c' m h. rw (m.driver, h.0) refl,
+            (
+              λ c c' m h. rw m.driver refl,
+              (
+                λ c c' m h. rw m.driver refl,
+                (
+                  range_ends,
+                  (
+                    range_ends,
+                    (
+                      range_ends,
+                      (
+                        λ c c' m h. rw (m.driver, h.0) refl,
+                        (
+                          λ c c' m h. rw m.driver refl,
+                          (
+                            λ c c' m h. rw (m.driver, h.0, h.1.0, h.1.1.0, h.1.1.1.0) refl,
+                            (
+                              λ c c' m h. rw m.driver refl,
+                              (
+                                λ c c' m h. rw m.driver refl,
+                                (
+                                  λ c c' m h. rw m.driver refl,
+                                  (
+                                    λ c c' m h. rw (m.driver, h.0) refl,
+                                    tt,
+                                  ),
+                                ),
+                              ),
+                            ),
+                          ),
+                        ),
+                      ),
+                    ),
+                  ),
+                ),
+              ),
+            ),
+          ),
+        ),
+      ),
+    )

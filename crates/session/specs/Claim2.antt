@@ -1,12 +1,11 @@
 -- Demand 2: "For every session, accepted call and list of bus replies [..] equality with [the Rust] in each transfer's bytes and order, in the answer
 -- and in the driver's fields [..]. Where the Rust panics, the same transfers and then answer 8."
-use Rattle.std.specs.Prelude.{◌≡◌, true, false, List, [], ◌∷◌, ℕ, ◌+◌}
-use Rattle.session.specs.Bus.{Answer, Reply, zero_from, clean_from}
-use Rattle.session.specs.Calls.{ops_of, program_of}
-use Rattle.session.specs.Machine.{Session, Outcome, sent, answered, refused, broken, context_of, malformed, waits_now, begun}
+use Rattle.std.specs.Prelude.{◌≡◌, true, List, [], ◌∷◌, ℕ}
+use Rattle.session.specs.Bus.{Answer}
+use Rattle.session.specs.Machine.{Session, Outcome, sent, answered, refused, broken}
 use Rattle.session.specs.Records.{call, reply, step_def}
 use Rattle.session.specs.Refusals.{ranges, in_range}
-use Rattle.session.specs.Script.{Script, done, send, Raw, data_of, cut, Trace, sends, refuses, waits, ends, play}
+use Rattle.session.specs.Script.{Raw, data_of, Trace, sends, refuses, waits, ends, play}
 use Rattle.session.specs.RustBringUp.{rust}
 use Rattle.session.specs.History.{session_of}
 
