@@ -58,6 +58,7 @@ pub mod Uses
 pub mod Kept
 pub mod Pairs
 pub mod Needed
+pub mod Course
 pub mod Carried
 -- waits over any limit, and values
 pub mod Waits

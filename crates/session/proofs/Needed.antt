@@ -108,6 +108,14 @@ send_same i c c' m o = go (op_of i) (sends_from i)
     go (wait w) d = rw m.address refl
     go range d = rw m.address refl
 
+pub kept_room : (op : Op) (r : Reply) (s s' : Session) → length s.carried ≡ length s'.carried → length (kept_bytes op r s.carried) ≡ length (kept_bytes op r s'.carried)
+kept_room (write reg bytes len over after) r s s' e = e
+kept_room (read reg len slot over after) (bad x) s s' e = e
+kept_room (read reg len slot over after) (good bs) s s' e = length_put s.carried slot (bytes_from 0 len bs) ∙ e ∙ sym (length_put s'.carried slot (bytes_from 0 len bs))
+kept_room (wait w) r s s' e = e
+kept_room range (bad x) s s' e = e
+kept_room range (good bs) s s' e = length_put s.carried range_slot (bytes_from 0 2 bs) ∙ e ∙ sym (length_put s'.carried range_slot (bytes_from 0 2 bs))
+
 module _ (code : ℕ) where
   abbrev prog : Program
   prog = program_of code
@@ -145,15 +153,7 @@ module _ (code : ℕ) where
           (same_transfer (send_of (op_of i) (context_of s)) (sending k 0 s) (sending k 0 s') (agree_at k 0 s s' t q.1))
 
   twin_kept : (s s' : Session) (op : Op) (r : Reply) → Twin code s s' → Twin code (kept_of s op r) (kept_of s' op r)
-  twin_kept s s' op r t = record { one = t.one; other = t.other; driver = t.driver; address = t.address; room = kept_room op r }
-    where
-      kept_room : (op : Op) (r : Reply) → length (kept_bytes op r s.carried) ≡ length (kept_bytes op r s'.carried)
-      kept_room (write reg bytes len over after) r = t.room
-      kept_room (read reg len slot over after) (bad e) = t.room
-      kept_room (read reg len slot over after) (good bs) = length_put s.carried slot (bytes_from 0 len bs) ∙ t.room ∙ sym (length_put s'.carried slot (bytes_from 0 len bs))
-      kept_room (wait w) r = t.room
-      kept_room range (bad e) = t.room
-      kept_room range (good bs) = length_put s.carried range_slot (bytes_from 0 2 bs) ∙ t.room ∙ sym (length_put s'.carried range_slot (bytes_from 0 2 bs))
+  twin_kept s s' op r t = record { one = t.one; other = t.other; driver = t.driver; address = t.address; room = kept_room op r s s' t.room }
 
   again_alike : (k i : ℕ) (w : Condition) (s s' : Session) → Twin code s s' → On (needed code k) (context_of s) (context_of s')
       → Alike (sent (send_of (wait w) (context_of s)) (sending k i s)) (sent (send_of (wait w) (context_of s')) (sending k i s'))
