@@ -1,19 +1,16 @@
 -- What the course of a call looks at, and what a call that goes on keeps.
-use mathlib.Core.Path.{◌≡◌, refl, sym, ap, ◌∙◌}
-use mathlib.Core.Bool.{Bool, true, false, ◌&&◌, ◌||◌, cond}
+use mathlib.Core.Path.{◌≡◌, refl, sym}
+use mathlib.Core.Bool.{Bool, true, false, cond}
 use mathlib.Core.List.{List, [], ◌∷◌, map}
 use Prim.Native.Nat.{ℕ, zero, suc}
 use native.Mathlib.Omega.{arith}
-use lib.Dec.{eqb}
 use lib.ListN.{length, get_or, drop}
 use Rattle.std.specs.List.{drop-map}
-use Rattle.session.specs.Bus.{Answer, Condition, Driver, Reply, number_of}
-use Rattle.session.specs.Instructions.{Instruction, Context, range_slot, bytes_from, Op, write, read, wait, range, Final, success, failure, send_of, kept_bytes, read_wins, report_of}
+use Rattle.session.specs.Bus.{Answer}
+use Rattle.session.specs.Instructions.{Instruction, Context, range_slot, wait, Final, success, failure, send_of}
 use Rattle.session.specs.Steps.{slot_word, op_of}
 use Rattle.session.specs.Calls.{Program, by_code, finishes, range_result, tuning, programs, program_of}
-use Rattle.session.specs.Machine.{Session, Outcome, sent, answered, refused, context_of, kept_of, sending, giving, conclude, enter, arrive, to_reply, stray}
-use Rattle.session.specs.Records.{reply, step_def}
-use Rattle.session.specs.Refusals.{Underway}
+use Rattle.session.specs.Machine.{Session, Outcome, refused, context_of, sending, conclude, enter, arrive, to_reply, stray}
 use Rattle.session.specs.AnySession.{Part, failure_code, course_rows, looked_at, SameCourse, both_go_on, both_end, both_refuse, CourseLooksAt}
 use Rattle.session.proofs.Table.{of_table, of_test}
 use Rattle.session.proofs.Refused.{sound_of}

@@ -59,6 +59,7 @@ pub mod Kept
 pub mod Pairs
 pub mod Needed
 pub mod Course
+pub mod Rest
 pub mod Carried
 -- waits over any limit, and values
 pub mod Waits
