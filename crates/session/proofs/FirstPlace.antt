@@ -1,61 +1,156 @@
--- The budget reads of a session that is handed in: where the machine goes on is where the Rust is after the carried bytes as replies.
+-- The budget reads of a session that is handed in: a reply leads where the Rust is after the carried bytes as replies and then this one.
 use mathlib.Core.Path.{◌≡◌, refl, sym, ap, ◌∙◌}
-use mathlib.Core.Bool.{Bool, true, false}
-use mathlib.Core.List.{List, [], ◌∷◌, map}
-use Prim.Native.Nat.{ℕ, zero, suc}
-use lib.ListN.{drop}
-use Rattle.spad.specs.Map.{bits_of, byte_of}
-use Rattle.spad.specs.Masks.{each_bit, or_byte}
-use Rattle.timing.specs.Places.{entries_of, less_place}
-use Rattle.session.specs.Bus.{Driver, byte, absent, idle_on}
-use Rattle.session.specs.Instructions.{Instruction, Context, Final, bytes_from}
-use Rattle.session.specs.Steps.{op_of}
-use Rattle.session.specs.Calls.{ops_of, tuning, programs, program_of}
-use Rattle.session.specs.Script.{Script}
-use Rattle.session.specs.RustFn.{Chip, ◌>>◌}
-use Rattle.session.specs.RustCalls.{get_measurement_timing_budget, set_budget_from_reads}
-use Rattle.session.specs.RustBringUp.{method, constructed, number, flag, calibration, budget_and_calibration}
-use Rattle.session.specs.AnySession.{resume}
-use Rattle.session.proofs.Once.{once_of}
+use mathlib.Core.List.{List, [], ◌∷◌, ◌++◌, map}
+use Prim.Native.Nat.{ℕ, zero, suc, ◌+◌, ◌≤◌, ◌<◌}
+use native.Mathlib.Omega.{arith}
+use lib.ListN.{length, get_or, take, drop}
+use lib.Seq.{set-get_or}
+use Rattle.std.specs.Prelude.{Option, None, Some}
+use Rattle.clock.specs.declared.Place.{Place}
+use Rattle.clock.specs.Places.{place_number}
+use Rattle.timing.specs.Places.{first_place}
+use Rattle.timing.proofs.Stays.{first_place_stays}
+use Rattle.budget.specs.Budget.{final_range_word}
+use Rattle.session.specs.Bus.{Answer, Driver, Reply, good, data_in}
+use Rattle.session.specs.Instructions.{Instruction, Context, Op, Final, bytes_from, put, timing_in}
+use Rattle.session.specs.Steps.{by_place, timing_length, timing_place, op_of}
+use Rattle.session.specs.Calls.{timing_reads}
+use Rattle.session.specs.Script.{Script, done}
+use Rattle.session.specs.AnySession.{keeping, decided, resume, hears, budget_replies, after_replies}
+use Rattle.session.proofs.Facts.{drop_next}
 use Rattle.session.proofs.Tests.{none_known}
-use Rattle.session.proofs.Eager.{once}
-use Rattle.session.proofs.BudgetCalls.{tested, get_is, set_is, rest_is}
-use Rattle.session.proofs.SixReads.{six}
-use Rattle.session.proofs.Bits.{or_is, no_interrupt_is}
+use Rattle.session.proofs.Later.{earlier_same}
 
--- a waiting call, with the 24 bytes of a list carried
-abbrev amid : ℕ → Driver → ℕ → ℕ → ℕ → ℕ → ℕ → List ℕ → Context
-amid code d adr a b failed own l =
-    record { code = code; driver = d; address = adr; a = a; b = b; failed = failed; own = own; carried = bytes_from 0 24 l }
+-- ---- scripts after replies
+pub after_snoc : (x : Script) (rs : List Reply) (r : Reply) → after_replies x (rs ++ r ∷ []) ≡ hears (after_replies x rs) r
+after_snoc x [] r = refl
+after_snoc x (q ∷ rs) r = after_snoc (hears x q) rs r
 
-chip_amid : ℕ → ℕ → List ℕ → Chip
-chip_amid a budget l = record { address = a; stop_variable = byte 1 l; measurement_timing_budget_microseconds = budget }
+after_take : (n : ℕ) (x : Script) (rs : List Reply) → n < length rs
+    → after_replies x (take (suc n) rs) ≡ hears (after_replies x (take n rs)) (get_or rs n (good []))
+after_take n x [] h = absurd (omega arith)
+after_take zero x (r ∷ rs) h = refl
+after_take (suc n) x (r ∷ rs) h = after_take n (hears x r) rs (omega arith)
 
-once_15 : (d : Driver) (a b failed own : ℕ) (l : List ℕ)
-    → resume (program_of 15).final zero (map once_of (program_of 15).steps) (amid 15 d d.address a b failed own l) ≡ method number d get_measurement_timing_budget
-unfolding program_of programs entries_of less_place
-once_15 d a b failed own l = rw get_is
+-- the panic of a place, or x
+abbrev ended : Option Place → Driver → Script → Script
+ended None d x = x
+ended (Some p) d x = done (Answer.Panic (place_number p)) d
 
-once_9 : (d : Driver) (a b failed own : ℕ) (l : List ℕ)
-    → resume (program_of 9).final zero (map once_of (program_of 9).steps) (amid 9 d d.address a b failed own l) ≡ method flag d (set_budget_from_reads a)
-unfolding program_of programs entries_of less_place
-once_9 d a b failed own l = go ∙ ap (λ f. method flag d (f a)) (sym rest_is)
-  where
-    go : resume (program_of 9).final zero (map once_of (program_of 9).steps) (amid 9 d d.address a b failed own l) ≡ method flag d (six (λ r. tested r a))
-    go = refl
+by_place_ends : (p : Option Place) (over : ℕ) (c : Context) (κ : ℕ → Script) → decided (by_place p) over c κ ≡ ended p c.driver (κ zero)
+by_place_ends None over c κ = refl
+by_place_ends (Some p) over c κ = refl
 
-once_1 : (a b failed own : ℕ) (l : List ℕ)
-    → resume (program_of 1).final zero (map once_of (drop 129 (program_of 1).steps)) (amid 1 absent a a b failed own l)
-    ≡ constructed (record { address = a; stop_variable = byte 1 l; measurement_timing_budget_microseconds = 0 }) budget_and_calibration
-unfolding program_of programs tuning idle_on entries_of less_place or_byte each_bit bits_of byte_of
-once_1 a b failed own l = rw (or_is, no_interrupt_is, get_is, set_is)
+-- ---- the n-th reply, read again
+abbrev data_at : ℕ → ℕ → List ℕ → List ℕ
+data_at n k l = data_in (get_or (budget_replies k l) n (good []))
 
-again_1 : (a b failed own : ℕ) (l : List ℕ)
-    → resume (program_of 1).final zero (map once_of (drop 136 (program_of 1).steps)) (amid 1 absent a a b failed own l)
-    ≡ constructed (record { address = a; stop_variable = byte 1 l; measurement_timing_budget_microseconds = own }) (set_budget_from_reads own >> calibration)
-unfolding program_of programs tuning idle_on entries_of less_place or_byte each_bit bits_of byte_of
-again_1 a b failed own l = go ∙ ap (λ f. constructed (record { address = a; stop_variable = byte 1 l; measurement_timing_budget_microseconds = own }) (f own >> calibration)) (sym rest_is)
-  where
-    go : resume (program_of 1).final zero (map once_of (drop 136 (program_of 1).steps)) (amid 1 absent a a b failed own l)
-        ≡ constructed (record { address = a; stop_variable = byte 1 l; measurement_timing_budget_microseconds = own }) (six (λ r. tested r own) >> calibration)
-    go = rw (or_is, no_interrupt_is)
+reply_is : (n k : ℕ) (l : List ℕ) → n ≤ 5 → get_or (budget_replies k l) n (good []) ≡ good (data_at n k l)
+reply_is zero k l h = refl
+reply_is (suc zero) k l h = refl
+reply_is (suc (suc zero)) k l h = refl
+reply_is (suc (suc (suc zero))) k l h = refl
+reply_is (suc (suc (suc (suc zero)))) k l h = refl
+reply_is (suc (suc (suc (suc (suc zero))))) k l h = refl
+reply_is (suc (suc (suc (suc (suc (suc n)))))) k l h = absurd (omega arith)
+
+-- the two slots from which budget replies are carried
+pub data Slot : ℕ → Type 0 where
+  first : Slot 8
+  second : Slot 16
+
+-- bytes that are kept where they were change nothing
+kept_again : {k : ℕ} → Slot k → (n : ℕ) → n ≤ 4 → (c : Context) → keeping c (op_of (Instruction.ReadTiming (suc n) k)) (good (data_at n k c.carried)) ≡ c
+kept_again first zero h c = rw (set-get_or c.carried 8 0) refl
+kept_again first (suc zero) h c = rw (set-get_or c.carried 9 0, set-get_or c.carried 10 0) refl
+kept_again first (suc (suc zero)) h c = rw (set-get_or c.carried 11 0, set-get_or c.carried 12 0) refl
+kept_again first (suc (suc (suc zero))) h c = rw (set-get_or c.carried 13 0) refl
+kept_again first (suc (suc (suc (suc zero)))) h c = rw (set-get_or c.carried 14 0) refl
+kept_again first (suc (suc (suc (suc (suc n))))) h c = absurd (omega arith)
+kept_again second zero h c = rw (set-get_or c.carried 16 0) refl
+kept_again second (suc zero) h c = rw (set-get_or c.carried 17 0, set-get_or c.carried 18 0) refl
+kept_again second (suc (suc zero)) h c = rw (set-get_or c.carried 19 0, set-get_or c.carried 20 0) refl
+kept_again second (suc (suc (suc zero))) h c = rw (set-get_or c.carried 21 0) refl
+kept_again second (suc (suc (suc (suc zero)))) h c = rw (set-get_or c.carried 22 0) refl
+kept_again second (suc (suc (suc (suc (suc n))))) h c = absurd (omega arith)
+
+-- ---- the read of the reply n + 1, and what a place of the first n makes of it
+pub data Nth (k : ℕ) : ℕ → Instruction → Type 0 where
+  timing : (n : ℕ) → Nth k n (Instruction.ReadTiming (suc n) k)
+  word : Nth k 5 (Instruction.ReadLast k)
+
+known_place : (fin : Context → Final) {n k : ℕ} {i : Instruction} → Nth k n i → n ≤ 5
+    → (ops : List Op) (c : Context) (bs : List ℕ) (p : Place) → first_place (timing_in k c.carried) n ≡ Some p
+    → hears (resume fin zero (op_of i ∷ ops) c) (good bs) ≡ done (Answer.Panic (place_number p)) c.driver
+unfolding final_range_word
+known_place fin {n} {k} (timing _) h ops c bs p e =
+    let r = timing_in k (put c.carried (k + timing_place (suc n)) (bytes_from 0 (timing_length (suc n)) bs)) in
+    let q : first_place r (suc n) ≡ Some p = first_place_stays r n (suc n) p (omega arith) (earlier_same n h k c.carried (bytes_from 0 (timing_length (suc n)) bs) ∙ e) in
+    rw q
+known_place fin {n} {k} word h ops c bs p e =
+    let r = timing_in k (put c.carried (k + 7) (bytes_from 0 1 bs)) in
+    let q : first_place r 6 ≡ Some p = first_place_stays r 5 6 p (omega arith) (earlier_same 5 h k c.carried (bytes_from 0 1 bs) ∙ e) in
+    rw q
+
+-- ---- six reads and what follows them, from a session that carries some of them
+module _ (fin : Context → Final) {k : ℕ} (slot : Slot k) {i : Instruction} (sixth : Nth k 5 i) (rest : List Instruction) where
+  abbrev ops : List Op
+  ops = map op_of (timing_reads k ++ i ∷ rest)
+
+  abbrev from : ℕ → Context → Script
+  from n c = resume fin zero (drop n ops) c
+
+  record Next (n : ℕ) : Type 0 where
+    instruction : Instruction
+    others : List Op
+    at : drop n ops ≡ op_of instruction ∷ others
+    kind : Nth k n instruction
+
+  next : (n : ℕ) → n ≤ 5 → Next n
+  next zero h = record { instruction = Instruction.ReadTiming 1 k; others = drop 1 ops; at = refl; kind = timing 0 }
+  next (suc zero) h = record { instruction = Instruction.ReadTiming 2 k; others = drop 2 ops; at = refl; kind = timing 1 }
+  next (suc (suc zero)) h = record { instruction = Instruction.ReadTiming 3 k; others = drop 3 ops; at = refl; kind = timing 2 }
+  next (suc (suc (suc zero))) h = record { instruction = Instruction.ReadTiming 4 k; others = drop 4 ops; at = refl; kind = timing 3 }
+  next (suc (suc (suc (suc zero)))) h = record { instruction = Instruction.ReadTiming 5 k; others = drop 5 ops; at = refl; kind = timing 4 }
+  next (suc (suc (suc (suc (suc zero))))) h = record { instruction = i; others = map op_of rest; at = refl; kind = sixth }
+  next (suc (suc (suc (suc (suc (suc n)))))) h = absurd (omega arith)
+
+  -- with the place that the first n replies show
+  on_reads : (n : ℕ) → n ≤ 4 → (c : Context) (x : Option Place) → first_place (timing_in k c.carried) n ≡ x → {i' : Instruction} {others : List Op}
+      → drop n ops ≡ op_of i' ∷ others → Nth k n i'
+      → hears (ended x c.driver (from n c)) (good (data_at n k c.carried)) ≡ ended (first_place (timing_in k c.carried) (suc n)) c.driver (from (suc n) c)
+  on_reads n h c (Some p) e at x = rw (first_place_stays (timing_in k c.carried) n (suc n) p (omega arith) e) refl
+  on_reads n h c None e at word = absurd (omega arith)
+  on_reads n h c None e {others = others} at (timing _) =
+      let there : drop (suc n) ops ≡ others = drop_next n ops at in
+      let after : Context → Script = λ c'. decided (by_place (first_place (timing_in k c'.carried) (suc n))) 0 c' (λ m. resume fin m others c') in
+      ap (λ l. hears (resume fin zero l c) (good (data_at n k c.carried))) at
+      ∙ ap after (kept_again slot n h c)
+      ∙ by_place_ends (first_place (timing_in k c.carried) (suc n)) 0 c (λ m. resume fin m others c)
+      ∙ ap (λ l. ended (first_place (timing_in k c.carried) (suc n)) c.driver (resume fin zero l c)) (sym there)
+
+  carried_replies : (n : ℕ) → n ≤ 5 → (c : Context)
+      → after_replies (from 0 c) (take n (budget_replies k c.carried)) ≡ ended (first_place (timing_in k c.carried) n) c.driver (from n c)
+  carried_replies zero h c = rw (none_known (timing_in k c.carried)) refl
+  carried_replies (suc n) h c =
+      let h₅ : n ≤ 5 = omega arith in
+      let h₄ : n ≤ 4 = omega arith in
+      let x = next n h₅ in
+      after_take n (from 0 c) (budget_replies k c.carried) (omega arith)
+      ∙ ap (λ y. hears y (get_or (budget_replies k c.carried) n (good []))) (carried_replies n h₅ c)
+      ∙ ap (hears (ended (first_place (timing_in k c.carried) n) c.driver (from n c))) (reply_is n k c.carried h₅)
+      ∙ on_reads n h₄ c (first_place (timing_in k c.carried) n) refl x.at x.kind
+
+  next_reply : (n : ℕ) → n ≤ 5 → (c : Context) (bs : List ℕ)
+      → hears (from n c) (good bs) ≡ after_replies (from 0 c) (take n (budget_replies k c.carried) ++ good bs ∷ [])
+  next_reply n h c bs =
+      go (first_place (timing_in k c.carried) n) refl
+      ∙ ap (λ y. hears y (good bs)) (sym (carried_replies n h c))
+      ∙ sym (after_snoc (from 0 c) (take n (budget_replies k c.carried)) (good bs))
+    where
+      go : (x : Option Place) → first_place (timing_in k c.carried) n ≡ x
+          → hears (from n c) (good bs) ≡ hears (ended (first_place (timing_in k c.carried) n) c.driver (from n c)) (good bs)
+      go None e = rw e refl
+      go (Some p) e =
+          let x = next n h in
+          rw e (ap (λ l. hears (resume fin zero l c) (good bs)) x.at ∙ known_place fin x.kind h x.others c bs p e)

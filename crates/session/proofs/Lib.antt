@@ -35,6 +35,7 @@ pub mod BudgetCalls
 pub mod Same
 pub mod Demand2
 -- the budget reads of a session that is handed in
+pub mod FromReads
 pub mod FirstPlace
 -- demand 3: laws of the tables
 pub mod Laws
