@@ -1,10 +1,10 @@
 -- The budget reads of a session that is handed in: a reply leads where the Rust is after the carried bytes as replies and then this one.
-use mathlib.Core.Path.{◌≡◌, refl, sym, ap, ◌∙◌}
+use mathlib.Core.Path.{◌≡◌, refl, sym, ap, subst, ◌∙◌}
 use mathlib.Core.List.{List, [], ◌∷◌, ◌++◌, map}
 use Prim.Native.Nat.{ℕ, zero, suc, ◌+◌, ◌≤◌, ◌<◌}
 use native.Mathlib.Omega.{arith}
 use lib.ListN.{length, get_or, take, drop}
-use lib.Seq.{set-get_or}
+use lib.Seq.{set-get_or, drop-drop}
 use Rattle.std.specs.Prelude.{Option, None, Some}
 use Rattle.clock.specs.declared.Place.{Place}
 use Rattle.clock.specs.Places.{place_number}
@@ -14,12 +14,16 @@ use Rattle.budget.specs.Budget.{final_range_word}
 use Rattle.session.specs.Bus.{Answer, Driver, Reply, good, data_in}
 use Rattle.session.specs.Instructions.{Instruction, Context, Op, Final, bytes_from, put, timing_in}
 use Rattle.session.specs.Steps.{by_place, timing_length, timing_place, op_of}
-use Rattle.session.specs.Calls.{timing_reads}
+use Rattle.session.specs.Calls.{ops_of, timing_reads, tuning, bring_up_steps, programs, program_of}
+use Rattle.session.specs.Machine.{Session, context_of, outstanding}
+use Rattle.session.specs.Records.{reply, step_def}
 use Rattle.session.specs.Script.{Script, done}
-use Rattle.session.specs.AnySession.{keeping, decided, resume, hears, budget_replies, after_replies}
+use Rattle.session.specs.AnySession.{keeping, decided, resume, left_of, left, hears, StandsAt, budget_replies, after_replies, BudgetReply, in_call_15, in_call_9, in_bring_up, again_in_bring_up, FirstPlace}
 use Rattle.session.proofs.Facts.{drop_next}
 use Rattle.session.proofs.Tests.{none_known}
 use Rattle.session.proofs.Later.{earlier_same}
+use Rattle.session.proofs.OneStep.{step_by_step}
+use Rattle.session.proofs.FromReads.{context_is, from_step, from_15, from_9, from_1, again_from_1}
 
 -- ---- scripts after replies
 pub after_snoc : (x : Script) (rs : List Reply) (r : Reply) → after_replies x (rs ++ r ∷ []) ≡ hears (after_replies x rs) r
@@ -154,3 +158,57 @@ module _ (fin : Context → Final) {k : ℕ} (slot : Slot k) {i : Instruction} (
       go (Some p) e =
           let x = next n h in
           rw e (ap (λ l. hears (resume fin zero l c) (good bs)) x.at ∙ known_place fin x.kind h x.others c bs p e)
+
+-- ---- a session that waits for one of them
+drop_map : {A B : Type 0} (f : A → B) (n : ℕ) (l : List A) → drop n (map f l) ≡ map f (drop n l)
+drop_map f zero l = refl
+drop_map f (suc n) [] = refl
+drop_map f (suc n) (x ∷ l) = drop_map f n l
+
+first_read : (fin : Context → Final) {k n : ℕ} {i : Instruction} → Nth k n i → (idle : ℕ) (l : List Op) (c : Context)
+    → left_of fin idle (op_of i ∷ l) c ≡ resume fin zero (op_of i ∷ l) c
+first_read fin (timing n) idle l c = refl
+first_read fin word idle l c = refl
+
+-- j instructions come before the six reads, and `x` is what the call is from there on
+module _ (s : Session) (code j n : ℕ) {k : ℕ} (slot : Slot k) {i : Instruction} (sixth : Nth k 5 i) (rest : List Instruction)
+    (reads : drop j (program_of code).steps ≡ timing_reads k ++ i ∷ rest)
+    (e : s.code ≡ code) (step : s.step ≡ j + n) (h : n ≤ 5) where
+  left_is : left s ≡ from (program_of code).final slot sixth rest n (context_of s)
+  left_is =
+      let fin = (program_of code).final in
+      let steps = (program_of code).steps in
+      let x = next fin slot sixth rest n h in
+      let at : drop s.step (map op_of steps) ≡ drop n (map op_of (timing_reads k ++ i ∷ rest)) =
+      ap (λ m. drop m (map op_of steps)) step
+      ∙ sym (drop-drop n j (map op_of steps))
+      ∙ ap (drop n) (drop_map op_of j steps ∙ ap (map op_of) reads)
+      in
+      ap (λ m. left_of (program_of m).final s.idle (drop s.step (ops_of (program_of m))) (context_of s)) e
+      ∙ ap (λ l. left_of fin s.idle l (context_of s)) (at ∙ x.at)
+      ∙ first_read fin x.kind s.idle x.others (context_of s)
+      ∙ ap (λ l. resume fin zero l (context_of s)) (sym x.at)
+
+  reply_leads : (c : Context) (x : Script) → context_of s ≡ c → from_step code j c ≡ x → (bs : List ℕ)
+      → hears (left s) (good bs) ≡ after_replies x (take n (budget_replies k s.carried) ++ good bs ∷ [])
+  reply_leads c x seen leads bs =
+      ap (λ y. hears y (good bs)) left_is
+      ∙ next_reply (program_of code).final slot sixth rest n h (context_of s) bs
+      ∙ ap (λ y. after_replies y (take n (budget_replies k s.carried) ++ good bs ∷ []))
+      (ap (λ is. resume (program_of code).final zero (map op_of is) (context_of s)) (sym reads) ∙ ap (from_step code j) seen ∙ leads)
+
+reads_in : (s : Session) (n k : ℕ) (x : Script) → n ≤ 5 → BudgetReply s n k x → length s.carried ≡ 24 → (bs : List ℕ)
+    → hears (left s) (good bs) ≡ after_replies x (take n (budget_replies k s.carried) ++ good bs ∷ [])
+unfolding program_of programs tuning
+reads_in s n k x h (in_call_15 e t) len =
+    reply_leads s 15 0 n first (timing 5) [] refl e (omega (arith, t)) h _ x (context_is s 15 e len) (from_15 s.driver s.a s.b s.failed s.own s.carried)
+reads_in s n k x h (in_call_9 e t) len =
+    reply_leads s 9 0 n first word (Instruction.WriteWord 8 ∷ []) refl e (omega (arith, t)) h _ x (context_is s 9 e len) (from_9 s.driver s.a s.b s.failed s.own s.carried)
+reads_in s n k x h (in_bring_up e t) len =
+    reply_leads s 1 129 n first (timing 5) (drop 135 bring_up_steps) refl e t h _ x (context_is s 1 e len) (from_1 s.a s.b s.failed s.own s.carried)
+reads_in s n k x h (again_in_bring_up e t) len =
+    reply_leads s 1 136 n second word (drop 142 bring_up_steps) refl e t h _ x (context_is s 1 e len) (again_from_1 s.a s.b s.failed s.own s.carried)
+
+pub first_place_law : (s : Session) (bs : List ℕ) → FirstPlace s bs
+first_place_law s bs n k x h q u len z =
+    subst (StandsAt s (step_def s (reply 0 bs))) (reads_in s n k x h q len (take (outstanding s).reads bs)) (step_by_step s 0 bs u z)
