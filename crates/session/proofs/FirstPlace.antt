@@ -3,6 +3,7 @@ use mathlib.Core.Path.{◌≡◌, refl, sym, ap, subst, ◌∙◌}
 use mathlib.Core.List.{List, [], ◌∷◌, ◌++◌, map}
 use Prim.Native.Nat.{ℕ, zero, suc, ◌+◌, ◌≤◌, ◌<◌}
 use native.Mathlib.Omega.{arith}
+use borrow.Author.Tests.{ne_eqb}
 use lib.ListN.{length, get_or, take, drop}
 use lib.Seq.{set-get_or, drop-drop}
 use Rattle.std.specs.Prelude.{Option, None, Some}
@@ -17,13 +18,16 @@ use Rattle.session.specs.Steps.{by_place, timing_length, timing_place, op_of}
 use Rattle.session.specs.Calls.{ops_of, timing_reads, tuning, bring_up_steps, programs, program_of}
 use Rattle.session.specs.Machine.{Session, context_of, outstanding}
 use Rattle.session.specs.Records.{reply, step_def}
-use Rattle.session.specs.Script.{Script, done}
-use Rattle.session.specs.AnySession.{keeping, decided, resume, left_of, left, hears, StandsAt, budget_replies, after_replies, BudgetReply, in_call_15, in_call_9, in_bring_up, again_in_bring_up, FirstPlace}
+use Rattle.session.specs.Script.{Script, done, cut}
+use Rattle.session.specs.RustFn.{◌>>◌, Ok}
+use Rattle.session.specs.RustCalls.{start_timed}
+use Rattle.session.specs.RustBringUp.{method, unit}
+use Rattle.session.specs.AnySession.{keeping, decided, resume, left_of, left, hears, StandsAt, budget_replies, after_replies, BudgetReply, in_call_15, in_call_9, in_bring_up, again_in_bring_up, FirstPlace, FirstPlaceOfPeriod}
 use Rattle.session.proofs.Facts.{drop_next}
 use Rattle.session.proofs.Tests.{none_known}
 use Rattle.session.proofs.Later.{earlier_same}
 use Rattle.session.proofs.OneStep.{step_by_step}
-use Rattle.session.proofs.FromReads.{context_is, from_step, from_15, from_9, from_1, again_from_1}
+use Rattle.session.proofs.FromReads.{context_is, from_step, from_15, from_9, from_1, again_from_1, from_4}
 
 -- ---- scripts after replies
 pub after_snoc : (x : Script) (rs : List Reply) (r : Reply) → after_replies x (rs ++ r ∷ []) ≡ hears (after_replies x rs) r
@@ -212,3 +216,16 @@ reads_in s n k x h (again_in_bring_up e t) len =
 pub first_place_law : (s : Session) (bs : List ℕ) → FirstPlace s bs
 first_place_law s bs n k x h q u len z =
     subst (StandsAt s (step_def s (reply 0 bs))) (reads_in s n k x h q len (take (outstanding s).reads bs)) (step_by_step s 0 bs u z)
+
+-- ---- the oscillator word
+period_leads : (s : Session) → s.code ≡ 4 → s.step ≡ 7 → (s.a ≡ 0 → ⊥) → length s.carried ≡ 24 → left s ≡ method unit s.driver (start_timed s.a >> Ok tt)
+unfolding program_of programs
+period_leads s e t positive len =
+    ap (λ m. left_of (program_of m).final s.idle (drop s.step (ops_of (program_of m))) (context_of s)) e
+    ∙ ap (λ m. left_of (program_of 4).final s.idle (drop m (ops_of (program_of 4))) (context_of s)) t
+    ∙ ap (from_step 4 7) (context_is s 4 e len)
+    ∙ from_4 s.driver s.a s.b s.failed s.own s.carried (ne_eqb s.a 0 positive)
+
+pub period_law : (s : Session) (bs : List ℕ) → FirstPlaceOfPeriod s bs
+period_law s bs e t positive u len z =
+    subst (λ x. StandsAt s (step_def s (reply 0 bs)) (hears x (cut (outstanding s) 0 bs))) (period_leads s e t positive len) (step_by_step s 0 bs u z)

@@ -1,8 +1,9 @@
 -- The budget reads of a session that is handed in: where the machine goes on is where the Rust is after the carried bytes as replies.
 use mathlib.Core.Path.{◌≡◌, refl, sym, ap, ◌∙◌}
-use mathlib.Core.Bool.{Bool, true, false}
+use mathlib.Core.Bool.{true, false}
 use mathlib.Core.List.{List, [], ◌∷◌, map}
 use Prim.Native.Nat.{ℕ, zero, suc}
+use lib.Dec.{eqb}
 use lib.ListN.{length, drop}
 use Rattle.spad.specs.Map.{bits_of, byte_of}
 use Rattle.spad.specs.Masks.{each_bit, or_byte}
@@ -11,17 +12,18 @@ use Rattle.session.specs.Bus.{Driver, byte, absent, idle_on}
 use Rattle.session.specs.Instructions.{Context, bytes_from, timing_in}
 use Rattle.session.specs.Machine.{Session, address_of, held_by, context_of}
 use Rattle.session.specs.Steps.{op_of}
-use Rattle.session.specs.Calls.{ops_of, tuning, programs, program_of}
+use Rattle.session.specs.Calls.{tuning, programs, program_of}
 use Rattle.session.specs.Script.{Script}
-use Rattle.session.specs.RustFn.{Chip, ◌>>◌}
-use Rattle.session.specs.RustCalls.{get_measurement_timing_budget, set_budget_from_reads}
-use Rattle.session.specs.RustBringUp.{method, constructed, number, flag, calibration, budget_and_calibration}
+use Rattle.session.specs.RustFn.{Chip, ◌>>◌, Ok}
+use Rattle.session.specs.RustCalls.{start_timed, get_measurement_timing_budget, set_budget_from_reads}
+use Rattle.session.specs.RustBringUp.{method, constructed, number, flag, unit, calibration, budget_and_calibration}
 use Rattle.session.specs.AnySession.{resume}
 use Rattle.session.proofs.Once.{once_of}
 use Rattle.session.proofs.Tests.{none_known}
 use Rattle.session.proofs.Eager.{ordered, once}
 use Rattle.session.proofs.BudgetCalls.{tested, get_is, set_is, rest_is}
 use Rattle.session.proofs.SixReads.{six}
+use Rattle.session.proofs.Formulas.{period_is}
 use Rattle.session.proofs.Bits.{or_is, no_interrupt_is}
 
 -- a list is its bytes
@@ -98,3 +100,8 @@ again_from_1 a b failed own l = made_once 1 136 c refl ∙ go ∙ ap (λ f. cons
 
     go : once_from 1 136 (amid 1 absent a a b failed own l) ≡ constructed (chip a own l) (six (λ r. tested r own) >> calibration)
     go = rw (or_is, no_interrupt_is)
+
+pub from_4 : (d : Driver) (a b failed own : ℕ) (l : List ℕ) → eqb a 0 ≡ false
+    → from_step 4 7 (amid 4 d d.address a b failed own l) ≡ method unit d (start_timed a >> Ok tt)
+unfolding program_of programs
+from_4 d a b failed own l e = rw (period_is, e)
