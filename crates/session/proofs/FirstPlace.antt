@@ -1,11 +1,11 @@
 -- The budget reads of a session that is handed in: a reply leads where the Rust is after the carried bytes as replies and then this one.
 use mathlib.Core.Path.{◌≡◌, refl, sym, ap, subst, ◌∙◌}
 use mathlib.Core.List.{List, [], ◌∷◌, ◌++◌, map}
-use Prim.Native.Nat.{ℕ, zero, suc, ◌+◌, ◌≤◌, ◌<◌}
+use Prim.Native.Nat.{ℕ, zero, suc, ◌+◌, ◌≤◌}
 use native.Mathlib.Omega.{arith}
 use borrow.Author.Tests.{ne_eqb}
 use lib.ListN.{length, get_or, take, drop}
-use lib.Seq.{set-get_or, drop-drop}
+use lib.Seq.{take-suc, set-get_or, drop-drop}
 use Rattle.std.specs.Prelude.{Option, None, Some}
 use Rattle.clock.specs.declared.Place.{Place}
 use Rattle.clock.specs.Places.{place_number}
@@ -27,18 +27,12 @@ use Rattle.session.proofs.Facts.{drop_next}
 use Rattle.session.proofs.Tests.{none_known}
 use Rattle.session.proofs.Later.{earlier_same}
 use Rattle.session.proofs.OneStep.{step_by_step}
-use Rattle.session.proofs.FromReads.{context_is, from_step, from_15, from_9, from_1, again_from_1, from_4}
+use Rattle.session.proofs.FromReads.{from_step, view, view_is, from_15, from_9, from_1, again_from_1, from_4}
 
 -- ---- scripts after replies
-pub after_snoc : (x : Script) (rs : List Reply) (r : Reply) → after_replies x (rs ++ r ∷ []) ≡ hears (after_replies x rs) r
+after_snoc : (x : Script) (rs : List Reply) (r : Reply) → after_replies x (rs ++ r ∷ []) ≡ hears (after_replies x rs) r
 after_snoc x [] r = refl
 after_snoc x (q ∷ rs) r = after_snoc (hears x q) rs r
-
-after_take : (n : ℕ) (x : Script) (rs : List Reply) → n < length rs
-    → after_replies x (take (suc n) rs) ≡ hears (after_replies x (take n rs)) (get_or rs n (good []))
-after_take n x [] h = absurd (omega arith)
-after_take zero x (r ∷ rs) h = refl
-after_take (suc n) x (r ∷ rs) h = after_take n (hears x r) rs (omega arith)
 
 -- the panic of a place, or x
 abbrev ended : Option Place → Driver → Script → Script
@@ -144,7 +138,8 @@ module _ (fin : Context → Final) {k : ℕ} (slot : Slot k) {i : Instruction} (
       let h₅ : n ≤ 5 = omega arith in
       let h₄ : n ≤ 4 = omega arith in
       let x = next n h₅ in
-      after_take n (from 0 c) (budget_replies k c.carried) (omega arith)
+      ap (after_replies (from 0 c)) (take-suc (budget_replies k c.carried) n (good []) (omega arith))
+      ∙ after_snoc (from 0 c) (take n (budget_replies k c.carried)) (get_or (budget_replies k c.carried) n (good []))
       ∙ ap (λ y. hears y (get_or (budget_replies k c.carried) n (good []))) (carried_replies n h₅ c)
       ∙ ap (hears (ended (first_place (timing_in k c.carried) n) c.driver (from n c))) (reply_is n k c.carried h₅)
       ∙ on_reads n h₄ c (first_place (timing_in k c.carried) n) refl x.at x.kind
@@ -193,25 +188,23 @@ module _ (s : Session) (code j n : ℕ) {k : ℕ} (slot : Slot k) {i : Instructi
       ∙ first_read fin x.kind s.idle x.others (context_of s)
       ∙ ap (λ l. resume fin zero l (context_of s)) (sym x.at)
 
-  reply_leads : (c : Context) (x : Script) → context_of s ≡ c → from_step code j c ≡ x → (bs : List ℕ)
+  reply_leads : (x : Script) → length s.carried ≡ 24 → from_step code j (view s code) ≡ x → (bs : List ℕ)
       → hears (left s) (good bs) ≡ after_replies x (take n (budget_replies k s.carried) ++ good bs ∷ [])
-  reply_leads c x seen leads bs =
+  reply_leads x len leads bs =
       ap (λ y. hears y (good bs)) left_is
       ∙ next_reply (program_of code).final slot sixth rest n h (context_of s) bs
       ∙ ap (λ y. after_replies y (take n (budget_replies k s.carried) ++ good bs ∷ []))
-      (ap (λ is. resume (program_of code).final zero (map op_of is) (context_of s)) (sym reads) ∙ ap (from_step code j) seen ∙ leads)
+      (ap (λ is. resume (program_of code).final zero (map op_of is) (context_of s)) (sym reads)
+      ∙ ap (from_step code j) (view_is s len ∙ ap (view s) e)
+      ∙ leads)
 
 reads_in : (s : Session) (n k : ℕ) (x : Script) → n ≤ 5 → BudgetReply s n k x → length s.carried ≡ 24 → (bs : List ℕ)
     → hears (left s) (good bs) ≡ after_replies x (take n (budget_replies k s.carried) ++ good bs ∷ [])
 unfolding program_of programs tuning
-reads_in s n k x h (in_call_15 e t) len =
-    reply_leads s 15 0 n first (timing 5) [] refl e (omega (arith, t)) h _ x (context_is s 15 e len) (from_15 s.driver s.a s.b s.failed s.own s.carried)
-reads_in s n k x h (in_call_9 e t) len =
-    reply_leads s 9 0 n first word (Instruction.WriteWord 8 ∷ []) refl e (omega (arith, t)) h _ x (context_is s 9 e len) (from_9 s.driver s.a s.b s.failed s.own s.carried)
-reads_in s n k x h (in_bring_up e t) len =
-    reply_leads s 1 129 n first (timing 5) (drop 135 bring_up_steps) refl e t h _ x (context_is s 1 e len) (from_1 s.a s.b s.failed s.own s.carried)
-reads_in s n k x h (again_in_bring_up e t) len =
-    reply_leads s 1 136 n second word (drop 142 bring_up_steps) refl e t h _ x (context_is s 1 e len) (again_from_1 s.a s.b s.failed s.own s.carried)
+reads_in s n k x h (in_call_15 e t) len = reply_leads s 15 0 n first (timing 5) [] refl e (omega (arith, t)) h x len (from_15 s)
+reads_in s n k x h (in_call_9 e t) len = reply_leads s 9 0 n first word (Instruction.WriteWord 8 ∷ []) refl e (omega (arith, t)) h x len (from_9 s)
+reads_in s n k x h (in_bring_up e t) len = reply_leads s 1 129 n first (timing 5) (drop 135 bring_up_steps) refl e t h x len (from_1 s)
+reads_in s n k x h (again_in_bring_up e t) len = reply_leads s 1 136 n second word (drop 142 bring_up_steps) refl e t h x len (again_from_1 s)
 
 pub first_place_law : (s : Session) (bs : List ℕ) → FirstPlace s bs
 first_place_law s bs n k x h q u len z =
@@ -223,8 +216,8 @@ unfolding program_of programs
 period_leads s e t positive len =
     ap (λ m. left_of (program_of m).final s.idle (drop s.step (ops_of (program_of m))) (context_of s)) e
     ∙ ap (λ m. left_of (program_of 4).final s.idle (drop m (ops_of (program_of 4))) (context_of s)) t
-    ∙ ap (from_step 4 7) (context_is s 4 e len)
-    ∙ from_4 s.driver s.a s.b s.failed s.own s.carried (ne_eqb s.a 0 positive)
+    ∙ ap (from_step 4 7) (view_is s len ∙ ap (view s) e)
+    ∙ from_4 s (ne_eqb s.a 0 positive)
 
 pub period_law : (s : Session) (bs : List ℕ) → FirstPlaceOfPeriod s bs
 period_law s bs e t positive u len z =
