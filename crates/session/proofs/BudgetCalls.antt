@@ -19,7 +19,7 @@ use Rattle.session.specs.Bus.{Answer}
 use Rattle.session.specs.Steps.{word_in}
 use Rattle.session.specs.RustFn.{ok, err, Fn, ◌>>=◌, ◌>>◌, Ok, panic, if, set_self_budget, write_16bit}
 use Rattle.session.specs.RustClocks.{over_u32, encode_timeout, calc_macro_period, timeout_microseconds_to_mclks, add_if}
-use Rattle.session.specs.RustCalls.{Enables, Timeouts, budget_microseconds, use_budget_microseconds, get_measurement_timing_budget, set_measurement_timing_budget}
+use Rattle.session.specs.RustCalls.{Enables, Timeouts, budget_microseconds, use_budget_microseconds, get_measurement_timing_budget, set_budget_from_reads, set_measurement_timing_budget}
 use Rattle.session.proofs.Once.{final_macro, spare_sum, total_clocks}
 use Rattle.session.proofs.Formulas.{either_over}
 use Rattle.session.proofs.Bits.{bit_on_is}
@@ -108,9 +108,11 @@ tests_are r budget h = fun_ext (λ chip. fun_ext (λ ret.
     (cond_both (ltb 65535 (total_clocks r budget)) (λ e. refl)
     (λ e₄. rw (final_word r budget h e₁ e₂ e₃ e₄)))))))))
 
+pub rest_is : set_budget_from_reads ≡ (λ budget. six (λ r. tested r budget))
+rest_is = fun_ext (λ budget.
+    reads_are (set_rest budget)
+    ∙ six_same (λ r. set_rest budget (enables_in r) (timeouts_in r)) (λ r. tested r budget) (λ r h. tests_are r budget h))
+
 pub set_is : set_measurement_timing_budget ≡ (λ budget. if (ltb budget 20000) (Ok false) (six (λ r. tested r budget)))
 unfolding set_measurement_timing_budget
-set_is = fun_ext (λ budget.
-    ap (if (ltb budget 20000) (Ok false))
-    (reads_are (set_rest budget)
-    ∙ six_same (λ r. set_rest budget (enables_in r) (timeouts_in r)) (λ r. tested r budget) (λ r h. tests_are r budget h)))
+set_is = fun_ext (λ budget. ap (λ f. if (ltb budget 20000) (Ok false) (f budget)) rest_is)

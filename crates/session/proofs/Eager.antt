@@ -70,7 +70,7 @@ slot_by (last k) = 0
 slot_by other = 0
 
 -- each of the list fits in
-abbrev ordered : ℕ → ℕ → List Instruction → Bool
+abbrev pub ordered : ℕ → ℕ → List Instruction → Bool
 ordered m j [] = true
 ordered m j (i ∷ is) = fits m j (kind_of i) is && ordered (replies_by (kind_of i)) (slot_by (kind_of i)) is
 
@@ -164,7 +164,7 @@ module _ (fin : Context → Final) where
       ∙ word_agrees (no_time k) (timing_in k c'.carried) (budget_to_set k c') (stays 5 k m j c bs q.0 p) (over_last k) c' _)
   step_same (other {i}) is m j c h p s = other_same (op_of i) is c h (λ c'. s c' (none_known _))
 
-  once : (is : List Instruction) (m j : ℕ) (c : Context) → ordered m j is ≡ true → Clear m j c → Same is c
+  pub once : (is : List Instruction) (m j : ℕ) (c : Context) → ordered m j is ≡ true → Clear m j c → Same is c
   once [] m j c h p = refl
   once (i ∷ is) m j c h p =
       let q = both (fits m j (kind_of i) is) (ordered (replies_by (kind_of i)) (slot_by (kind_of i)) is) h in

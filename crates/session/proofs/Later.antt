@@ -26,10 +26,13 @@ first_replies (suc (suc (suc (suc (suc zero))))) h k l = refl
 first_replies (suc (suc (suc (suc (suc (suc n)))))) h k l = absurd (omega arith)
 
 -- the reply of the next read is kept
-pub later_stays : (n : ℕ) → n ≤ 5 → (k : ℕ) (l bytes : List ℕ) → first_place (timing_in k l) n ≡ None
-    → first_place (timing_in k (put l (k + timing_place (suc n)) bytes)) n ≡ None
-later_stays n h k l bytes e =
+pub earlier_same : (n : ℕ) → n ≤ 5 → (k : ℕ) (l bytes : List ℕ)
+    → first_place (timing_in k (put l (k + timing_place (suc n)) bytes)) n ≡ first_place (timing_in k l) n
+earlier_same n h k l bytes =
     first_replies n h k (put l (k + timing_place (suc n)) bytes)
     ∙ ap (λ bs. first_place (registers_of bs) n) (from_below k (timing_place (suc n)) (k + timing_place (suc n)) l bytes (omega arith))
     ∙ sym (first_replies n h k l)
-    ∙ e
+
+pub later_stays : (n : ℕ) → n ≤ 5 → (k : ℕ) (l bytes : List ℕ) → first_place (timing_in k l) n ≡ None
+    → first_place (timing_in k (put l (k + timing_place (suc n)) bytes)) n ≡ None
+later_stays n h k l bytes e = earlier_same n h k l bytes ∙ e

@@ -34,6 +34,9 @@ pub mod BudgetCalls
 -- and each call's script its Rust function
 pub mod Same
 pub mod Demand2
+-- the budget reads of a session that is handed in
+pub mod FromReads
+pub mod FirstPlace
 -- demand 3: laws of the tables
 pub mod Laws
 pub mod Shape

@@ -10,10 +10,10 @@ use Rattle.session.specs.Machine.{Session, Outcome, sent, answered, refused, bro
 use Rattle.session.specs.Records.{call, reply, step_def}
 use Rattle.session.specs.Script.{Script, done, send, on_reply, wait_loop, cut}
 use Rattle.session.specs.Refusals.{Underway}
-use Rattle.session.specs.RustFn.{Chip, ◌>>◌}
+use Rattle.session.specs.RustFn.{Chip, ◌>>◌, Ok}
 use Rattle.session.specs.RustClocks.{or_u8, and_u8, spad_count, type_is_aperture, threshold_raw, threshold_mm, limit_contained, limit_word}
-use Rattle.session.specs.RustCalls.{get_measurement_timing_budget, set_budget_from_reads}
-use Rattle.session.specs.RustBringUp.{enable_ref_spads, method, constructed, number, flag, calibration, budget_and_calibration}
+use Rattle.session.specs.RustCalls.{start_timed, get_measurement_timing_budget, set_budget_from_reads}
+use Rattle.session.specs.RustBringUp.{enable_ref_spads, method, constructed, number, flag, unit, calibration, budget_and_calibration}
 use Rattle.session.specs.Claim1.{chip_address}
 use Rattle.session.specs.Claim2.{Accepted}
 
@@ -450,3 +450,13 @@ FirstPlace s bs =
     → length s.carried ≡ 24
     → zero_from (clean_from 0 (outstanding s).reads) bs ≡ true
     → StandsAt s (step_def s (reply 0 bs)) (after_replies x (take n (budget_replies k s.carried) ++ cut (outstanding s) 0 bs ∷ []))
+
+-- and 01: "period × oscillator word above 32 bits is place 1": call 4, with a period, waits for the oscillator word
+abbrev pub FirstPlaceOfPeriod : Session → List ℕ → Type 0
+FirstPlaceOfPeriod s bs =
+    s.code ≡ 4 → s.step ≡ 7
+    → (s.a ≡ 0 → ⊥)
+    → Underway s
+    → length s.carried ≡ 24
+    → zero_from (clean_from 0 (outstanding s).reads) bs ≡ true
+    → StandsAt s (step_def s (reply 0 bs)) (hears (method unit s.driver (start_timed s.a >> Ok tt)) (cut (outstanding s) 0 bs))

@@ -29,6 +29,14 @@ set_signal_rate_limit limit =
       write_16bit FINAL_RANGE_CONFIG_MIN_COUNT_RATE_RTN_LIMIT (limit_word limit)
       Ok true)
 
+-- lib.rs 260, start_continuous with a period
+abbrev pub start_timed : ℕ → Fn Unit
+start_timed period_millis = do
+  osc_calibrate_value ← read_16bit OSC_CALIBRATE_VAL
+  period ← multiply_period period_millis osc_calibrate_value
+  write_32bit SYSTEM_INTERMEASUREMENT_PERIOD period
+  write_byte SYSRANGE_START 0x04
+
 -- lib.rs 260: start_continuous
 abbrev pub start_continuous : ℕ → Fn Unit
 start_continuous period_millis = do
@@ -39,13 +47,7 @@ start_continuous period_millis = do
   write_byte 0x00 0x01
   write_byte 0xFF 0x00
   write_byte 0x80 0x00
-  if (not (eqb period_millis 0))
-      (do
-        osc_calibrate_value ← read_16bit OSC_CALIBRATE_VAL
-        period ← multiply_period period_millis osc_calibrate_value
-        write_32bit SYSTEM_INTERMEASUREMENT_PERIOD period
-        write_byte SYSRANGE_START 0x04)
-      (write_byte SYSRANGE_START 0x02)
+  if (not (eqb period_millis 0)) (start_timed period_millis) (write_byte SYSRANGE_START 0x02)
   Ok tt
 
 -- lib.rs 298: stop_continuous
