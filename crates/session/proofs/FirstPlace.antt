@@ -6,28 +6,29 @@ use native.Mathlib.Omega.{arith}
 use borrow.Author.Tests.{ne_eqb}
 use lib.ListN.{length, get_or, take, drop}
 use lib.Seq.{take-suc, set-get_or, drop-drop}
-use Rattle.std.specs.Prelude.{Option, None, Some}
+use Rattle.std.specs.Prelude.{Option, None, Some, Result, Ok, Err}
 use Rattle.clock.specs.declared.Place.{Place}
 use Rattle.clock.specs.Places.{place_number}
 use Rattle.timing.specs.Places.{first_place}
 use Rattle.timing.proofs.Stays.{first_place_stays}
+use Rattle.budget.specs.declared.NoWord.{NoWord}
 use Rattle.budget.specs.Budget.{final_range_word}
-use Rattle.session.specs.Bus.{Answer, Driver, Reply, good, data_in}
-use Rattle.session.specs.Instructions.{Instruction, Context, Op, Final, bytes_from, put, timing_in}
-use Rattle.session.specs.Steps.{by_place, timing_length, timing_place, op_of}
+use Rattle.session.specs.Bus.{byte, Transfer, Answer, Driver, Reply, good, data_in}
+use Rattle.session.specs.Instructions.{Instruction, Context, Op, Final, bytes_from, put, timing_in, send_of}
+use Rattle.session.specs.Steps.{by_place, by_word, no_time, over_last, word_to_set, timing_length, timing_place, op_of}
 use Rattle.session.specs.Calls.{ops_of, timing_reads, tuning, bring_up_steps, programs, program_of}
-use Rattle.session.specs.Machine.{Session, context_of, outstanding}
+use Rattle.session.specs.Machine.{Session, context_of, first_transfer_out, outstanding}
 use Rattle.session.specs.Records.{reply, step_def}
-use Rattle.session.specs.Script.{Script, done, cut}
-use Rattle.session.specs.RustFn.{◌>>◌, Ok}
-use Rattle.session.specs.RustCalls.{start_timed}
-use Rattle.session.specs.RustBringUp.{method, unit}
-use Rattle.session.specs.AnySession.{keeping, decided, resume, left_of, left, hears, StandsAt, budget_replies, after_replies, BudgetReply, in_call_15, in_call_9, in_bring_up, again_in_bring_up, FirstPlace, FirstPlaceOfPeriod}
-use Rattle.session.proofs.Facts.{drop_next}
+use Rattle.session.specs.Script.{Script, done, send, cut}
+use Rattle.session.specs.RustFn.{◌>>◌, Ok as Fine, write_byte}
+use Rattle.session.specs.RustCalls.{start_timed, set_measurement_timing_budget}
+use Rattle.session.specs.RustBringUp.{method, unit, constructed, calibration}
+use Rattle.session.specs.AnySession.{keeping, decided, resume, left_of, left, hears, StandsAt, budget_replies, after_replies, BudgetReply, in_call_15, in_call_9, in_bring_up, again_in_bring_up, FirstPlace, of_call_9, of_bring_up, WordOut, StepsWritten, chip_in, FirstPlaceOfPeriod}
+use Rattle.session.proofs.Facts.{clash, drop_next}
 use Rattle.session.proofs.Tests.{none_known}
 use Rattle.session.proofs.Later.{earlier_same}
 use Rattle.session.proofs.OneStep.{step_by_step}
-use Rattle.session.proofs.FromReads.{from_step, view, view_is, from_15, from_9, from_1, again_from_1, from_4}
+use Rattle.session.proofs.FromReads.{from_step, view, view_is, from_15, from_9, from_1, again_from_1, steps_from_1, from_4}
 
 -- ---- scripts after replies
 after_snoc : (x : Script) (rs : List Reply) (r : Reply) → after_replies x (rs ++ r ∷ []) ≡ hears (after_replies x rs) r
@@ -210,8 +211,74 @@ pub first_place_law : (s : Session) (bs : List ℕ) → FirstPlace s bs
 first_place_law s bs n k x h q u len z =
     subst (StandsAt s (step_def s (reply 0 bs))) (reads_in s n k x h q len (take (outstanding s).reads bs)) (step_by_step s 0 bs u z)
 
+-- ---- the word that is out
+-- what follows the last read, where it sends a word: `lead` is what follows where no time is left
+module _ (k : ℕ) (c : Context) (κ : ℕ → Script) (g : Reply → Script) (t : Transfer) (f : Reply → Script)
+    (word : κ zero ≡ send (send_of (op_of (Instruction.WriteWord k)) c) g)
+    (short : decided (no_time k) (over_last k) c κ ≡ send t f → byte 0 t.written ≡ 0x71 → ⊥) where
+  word_sent_is : (w : Result ℕ NoWord) → decided (by_word (no_time k) w) (over_last k) c κ ≡ send t f → byte 0 t.written ≡ 0x71
+      → send_of (op_of (Instruction.WriteWord k)) c ≡ t
+  word_sent_is (Ok n) e z = let q : send (send_of (op_of (Instruction.WriteWord k)) c) g ≡ send t f = sym word ∙ e in cc
+  word_sent_is (Err NoWord.NoTime) e z = absurd (short e z)
+  word_sent_is (Err (NoWord.Panic p)) e z = clash cc
+
+-- the sixth reply, read again
+again_8 : (fin : Context → Final) (ops : List Op) (c : Context) (t : Transfer) (f : Reply → Script)
+    → hears (resume fin zero (op_of (Instruction.ReadLast 8) ∷ op_of (Instruction.WriteWord 8) ∷ ops) c) (good (data_at 5 8 c.carried)) ≡ send t f
+    → byte 0 t.written ≡ 0x71 → send_of (op_of (Instruction.WriteWord 8)) c ≡ t
+again_8 fin ops c t f e z =
+    let c' : Context = keeping c (op_of (Instruction.ReadLast 8)) (good (data_at 5 8 c.carried)) in
+    let q : send_of (op_of (Instruction.WriteWord 8)) c' ≡ t = word_sent_is 8 c' (λ m. resume fin m (op_of (Instruction.WriteWord 8) ∷ ops) c') _ t f refl (λ h y. clash cc) (word_to_set 8 c') e z in
+    rw (set-get_or c.carried 15 0) at q
+
+again_16 : (fin : Context → Final) (ops : List Op) (c : Context) (t : Transfer) (f : Reply → Script)
+    → hears (resume fin zero (op_of (Instruction.ReadLast 16) ∷ op_of (Instruction.WriteWord 16) ∷ op_of (Instruction.Write 0x01 0x01) ∷ ops) c) (good (data_at 5 16 c.carried)) ≡ send t f
+    → byte 0 t.written ≡ 0x71 → send_of (op_of (Instruction.WriteWord 16)) c ≡ t
+again_16 fin ops c t f e z =
+    let c' : Context = keeping c (op_of (Instruction.ReadLast 16)) (good (data_at 5 16 c.carried)) in
+    let q : send_of (op_of (Instruction.WriteWord 16)) c' ≡ t =
+    word_sent_is 16 c' (λ m. resume fin m (op_of (Instruction.WriteWord 16) ∷ op_of (Instruction.Write 0x01 0x01) ∷ ops) c') _ t f refl
+    (λ h y. let same : send_of (op_of (Instruction.Write 0x01 0x01)) c' ≡ t = cc in let n : ◌≡◌ {A = ℕ} 0x01 0x71 = ap (λ x. byte 0 x.written) same ∙ y in absurd (omega (arith, n)))
+    (word_to_set 16 c') e z in
+    rw (set-get_or c.carried 23 0) at q
+
+-- the six replies as carried, and the script from the first read on
+six_replies : (code j : ℕ) (s : Session) {k : ℕ} (slot : Slot k) {i : Instruction} (sixth : Nth k 5 i) (rest : List Instruction)
+    → drop j (program_of code).steps ≡ timing_reads k ++ i ∷ rest → s.code ≡ code → length s.carried ≡ 24 → (x : Script) → from_step code j (view s code) ≡ x
+    → hears (from (program_of code).final slot sixth rest 5 (context_of s)) (good (data_at 5 k s.carried)) ≡ after_replies x (budget_replies k s.carried)
+six_replies code j s {k} slot sixth rest reads e len x leads =
+    next_reply (program_of code).final slot sixth rest 5 (omega arith) (context_of s) (data_at 5 k s.carried)
+    ∙ ap (λ y. after_replies y (budget_replies k s.carried))
+    (ap (λ is. resume (program_of code).final zero (map op_of is) (context_of s)) (sym reads)
+    ∙ ap (from_step code j) (view_is s len ∙ ap (view s) e)
+    ∙ leads)
+
+pub word_out : (s : Session) → WordOut s
+unfolding program_of programs tuning
+word_out s k x t f (of_call_9 e p) len h z =
+    ap (λ m. first_transfer_out (drop s.step (ops_of (program_of m))) (context_of s)) e
+    ∙ ap (λ m. first_transfer_out (drop m (ops_of (program_of 9))) (context_of s)) p
+    ∙ again_8 (program_of 9).final [] (context_of s) t f (six_replies 9 0 s first word (Instruction.WriteWord 8 ∷ []) refl e len x (from_9 s) ∙ h) z
+word_out s k x t f (of_bring_up e p) len h z =
+    ap (λ m. first_transfer_out (drop s.step (ops_of (program_of m))) (context_of s)) e
+    ∙ ap (λ m. first_transfer_out (drop m (ops_of (program_of 1))) (context_of s)) p
+    ∙ again_16 (program_of 1).final (map op_of (drop 144 bring_up_steps)) (context_of s) t f (six_replies 1 136 s second word (drop 142 bring_up_steps) refl e len x (again_from_1 s) ∙ h) z
+
+-- ---- the sequence steps of a bring-up
+steps_lead : (s : Session) → s.code ≡ 1 → s.step ≡ 135 → length s.carried ≡ 24 → left s ≡ constructed (chip_in s s.own) (write_byte 0x01 0xE8 >> (set_measurement_timing_budget s.own >> calibration))
+unfolding program_of programs tuning
+steps_lead s e t len =
+    ap (λ m. left_of (program_of m).final s.idle (drop s.step (ops_of (program_of m))) (context_of s)) e
+    ∙ ap (λ m. left_of (program_of 1).final s.idle (drop m (ops_of (program_of 1))) (context_of s)) t
+    ∙ ap (from_step 1 135) (view_is s len ∙ ap (view s) e)
+    ∙ steps_from_1 s
+
+pub steps_written : (s : Session) (bs : List ℕ) → StepsWritten s bs
+steps_written s bs e t u len z =
+    subst (λ x. StandsAt s (step_def s (reply 0 bs)) (hears x (cut (outstanding s) 0 bs))) (steps_lead s e t len) (step_by_step s 0 bs u z)
+
 -- ---- the oscillator word
-period_leads : (s : Session) → s.code ≡ 4 → s.step ≡ 7 → (s.a ≡ 0 → ⊥) → length s.carried ≡ 24 → left s ≡ method unit s.driver (start_timed s.a >> Ok tt)
+period_leads : (s : Session) → s.code ≡ 4 → s.step ≡ 7 → (s.a ≡ 0 → ⊥) → length s.carried ≡ 24 → left s ≡ method unit s.driver (start_timed s.a >> Fine tt)
 unfolding program_of programs
 period_leads s e t positive len =
     ap (λ m. left_of (program_of m).final s.idle (drop s.step (ops_of (program_of m))) (context_of s)) e

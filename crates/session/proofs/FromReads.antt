@@ -14,8 +14,8 @@ use Rattle.session.specs.Machine.{Session, address_of, held_by, context_of}
 use Rattle.session.specs.Steps.{op_of}
 use Rattle.session.specs.Calls.{tuning, programs, program_of}
 use Rattle.session.specs.Script.{Script}
-use Rattle.session.specs.RustFn.{◌>>◌, Ok}
-use Rattle.session.specs.RustCalls.{start_timed, get_measurement_timing_budget, set_budget_from_reads}
+use Rattle.session.specs.RustFn.{◌>>◌, Ok, write_byte}
+use Rattle.session.specs.RustCalls.{start_timed, get_measurement_timing_budget, set_budget_from_reads, set_measurement_timing_budget}
 use Rattle.session.specs.RustBringUp.{method, constructed, number, flag, unit, calibration, budget_and_calibration}
 use Rattle.session.specs.AnySession.{resume, chip_in}
 use Rattle.session.proofs.Once.{once_of}
@@ -87,6 +87,13 @@ module _ (s : Session) where
     where
       go : once_from 1 136 (view 1) ≡ constructed (chip_in s s.own) (six (λ r. tested r s.own) >> calibration)
       go = rw (or_is, no_interrupt_is)
+
+  pub steps_from_1 : from_step 1 135 (view 1) ≡ constructed (chip_in s s.own) (write_byte 0x01 0xE8 >> (set_measurement_timing_budget s.own >> calibration))
+  unfolding program_of programs tuning idle_on entries_of less_place or_byte each_bit bits_of byte_of
+  steps_from_1 = made_once 1 135 (view 1) refl ∙ go
+    where
+      go : once_from 1 135 (view 1) ≡ constructed (chip_in s s.own) (write_byte 0x01 0xE8 >> (set_measurement_timing_budget s.own >> calibration))
+      go = rw (or_is, no_interrupt_is, set_is)
 
   pub from_4 : eqb s.a 0 ≡ false → from_step 4 7 (view 4) ≡ method unit s.driver (start_timed s.a >> Ok tt)
   unfolding program_of programs

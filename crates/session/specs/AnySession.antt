@@ -12,7 +12,7 @@ use Rattle.session.specs.Script.{Script, done, send, on_reply, wait_loop, cut}
 use Rattle.session.specs.Refusals.{Underway}
 use Rattle.session.specs.RustFn.{Chip, ◌>>◌, Ok}
 use Rattle.session.specs.RustClocks.{or_u8, and_u8, spad_count, type_is_aperture, threshold_raw, threshold_mm, limit_contained, limit_word}
-use Rattle.session.specs.RustCalls.{start_timed, get_measurement_timing_budget, set_budget_from_reads}
+use Rattle.session.specs.RustCalls.{start_timed, get_measurement_timing_budget, set_budget_from_reads, set_measurement_timing_budget}
 use Rattle.session.specs.RustBringUp.{enable_ref_spads, method, constructed, number, flag, unit, calibration, budget_and_calibration}
 use Rattle.session.specs.Claim1.{chip_address}
 use Rattle.session.specs.Claim2.{Accepted}
@@ -450,6 +450,29 @@ FirstPlace s bs =
     → length s.carried ≡ 24
     → zero_from (clean_from 0 (outstanding s).reads) bs ≡ true
     → StandsAt s (step_def s (reply 0 bs)) (after_replies x (take n (budget_replies k s.carried) ++ cut (outstanding s) 0 bs ∷ []))
+
+-- a call waits with a final range word out; `x` is lib.rs from the first of the six reads on
+pub data WordIsOut (s : Session) : ℕ → Script → Type 0 where
+  of_call_9 : s.code ≡ 9 → s.step ≡ 6 → WordIsOut s 8 (method flag s.driver (set_budget_from_reads s.a))
+  of_bring_up : s.code ≡ 1 → s.step ≡ 142 → WordIsOut s 16 (constructed (chip_in s s.own) (set_budget_from_reads s.own >> calibration))
+
+-- where lib.rs writes a word after the carried bytes as replies, that transfer is out
+abbrev pub WordOut : Session → Type 0
+WordOut s =
+    (k : ℕ) (x : Script) (t : Transfer) (f : Reply → Script) → WordIsOut s k x
+    → length s.carried ≡ 24
+    → after_replies x (budget_replies k s.carried) ≡ send t f
+    → byte 0 t.written ≡ 0x71
+    → outstanding s ≡ t
+
+-- a bring-up has written its sequence steps: it goes on as lib.rs sets the budget that is carried, also one below 20,000
+abbrev pub StepsWritten : Session → List ℕ → Type 0
+StepsWritten s bs =
+    s.code ≡ 1 → s.step ≡ 135
+    → Underway s
+    → length s.carried ≡ 24
+    → zero_from (clean_from 0 (outstanding s).reads) bs ≡ true
+    → StandsAt s (step_def s (reply 0 bs)) (constructed (chip_in s s.own) (set_measurement_timing_budget s.own >> calibration))
 
 -- and 01: "period × oscillator word above 32 bits is place 1": call 4, with a period, waits for the oscillator word
 abbrev pub FirstPlaceOfPeriod : Session → List ℕ → Type 0
