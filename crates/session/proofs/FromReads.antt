@@ -1,4 +1,4 @@
--- The instructions of a session that is handed in, from the first of six budget reads on and from the oscillator's, are what lib.rs does from there on.
+-- From the first of six budget reads on, and from the oscillator's, the instructions of a session that is handed in are what lib.rs does there.
 use mathlib.Core.Path.{◌≡◌, refl, sym, ap, ◌∙◌}
 use mathlib.Core.Bool.{true, false}
 use mathlib.Core.List.{List, [], ◌∷◌, map}
@@ -61,7 +61,9 @@ module _ (s : Session) where
       }
 
   pub view_is : length s.carried ≡ 24 → context_of s ≡ view s.code
-  view_is h = ap (λ l. record { code = s.code; driver = held_by s.code s.driver; address = address_of s.code s.a s.driver; a = s.a; b = s.b; failed = s.failed; own = s.own; carried = l }) (sym (ap (λ n. bytes_from 0 n s.carried) (sym h) ∙ its_bytes s.carried))
+  view_is h =
+      let whole : bytes_from 0 24 s.carried ≡ s.carried = ap (λ n. bytes_from 0 n s.carried) (sym h) ∙ its_bytes s.carried in
+      rw whole refl
 
   pub from_15 : from_step 15 0 (view 15) ≡ method number s.driver get_measurement_timing_budget
   unfolding program_of programs entries_of less_place
