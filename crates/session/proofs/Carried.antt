@@ -1,23 +1,25 @@
 -- What is written and answered of carried bytes is lib.rs's formula of them.
 use mathlib.Core.Path.{◌≡◌, refl, ap, ◌∙◌}
-use mathlib.Core.Bool.{Bool, true, false, not, cond}
+use mathlib.Core.Bool.{Bool, true, false, not, ◌&&◌, cond}
 use mathlib.Core.List.{List, [], ◌∷◌}
-use Prim.Native.Nat.{ℕ, zero, suc}
+use Prim.Native.Nat.{ℕ, zero, suc, ◌*◌}
 use native.Mathlib.Omega.{arith}
-use lib.Dec.{eqb}
+use native.Mathlib.Nat.{zero-mul}
+use lib.Dec.{eqb, ltb}
 use borrow.Author.Tests.{ne_eqb}
 use lib.ListN.{drop}
 use Rattle.rate.specs.Rate.{signal_rate_limit_word}
 use Rattle.session.specs.Bus.{Driver, Answer, good, zero_from}
 use Rattle.session.specs.Instructions.{Instruction, range_slot, bytes_from, send_of}
-use Rattle.session.specs.Steps.{slot_word, rate_in, op_of}
+use Rattle.session.specs.Steps.{slot_word, rate_in, period_too_long, op_of}
 use Rattle.session.specs.Calls.{tuning, by_code, finishes, range_result, programs, program_of}
-use Rattle.session.specs.Machine.{Session, answered, resting, held_by, context_of, conclude, arrive, react, stray, outstanding}
+use Rattle.session.specs.Machine.{Session, answered, resting, held_by, context_of, kept_of, conclude, arrive, react, stray, outstanding}
 use Rattle.session.specs.Records.{reply, step_def}
 use Rattle.session.specs.Refusals.{Underway}
 use Rattle.session.specs.RustClocks.{limit_contained, limit_word}
-use Rattle.session.specs.AnySession.{limit_sent, word_at, range_answer, CarriedWrites, CarriedAnswers}
+use Rattle.session.specs.AnySession.{limit_sent, word_at, range_answer, CarriedWrites, CarriedAnswers, GoesOnAt, NoPeriod}
 use Rattle.session.proofs.Cut.{stray_is}
+use Rattle.session.proofs.Shape.{and_false}
 use Rattle.session.proofs.Slots.{under, within}
 use Rattle.session.proofs.Pairs.{met_at, out_at}
 use Rattle.session.proofs.Bits.{or_is, and_is, spad_count_is, aperture_is, raw_is, mm_is}
@@ -146,3 +148,16 @@ carried_answers s bs u long clean = (
     ),
   ),
 )
+
+-- the oscillator word with no period
+pub no_period : (s : Session) (bs : List ℕ) → NoPeriod s bs
+unfolding program_of programs arrive
+no_period s bs e e' z u clean =
+    let i : Instruction = Instruction.ReadOscillator in
+    let is : List Instruction = Instruction.WritePeriod ∷ Instruction.WriteMode ∷ [] in
+    let c : zero_from (send_of (op_of i) (context_of s)).reads bs ≡ true = rw (out_at s 4 7 i is e e' refl) at clean in
+    let n : stray (send_of (op_of i) (context_of s)) 0 bs ≡ false = stray_is (send_of (op_of i) (context_of s)) 0 bs ∙ ap not c in
+    let u₇ : Session = kept_of s (op_of i) (good bs) in
+    let w : ℕ = slot_word 8 (context_of u₇) in
+    let p : period_too_long (context_of u₇) ≡ false = ap (λ a. not (eqb w 0) && ltb 4294967295 (a * w)) z ∙ ap (λ a. not (eqb w 0) && ltb 4294967295 a) (zero-mul w) ∙ and_false (not (eqb w 0)) in
+    rw (met_at s 4 7 i is 0 bs e e' u refl, n, p) (subst (λ k. GoesOnAt 8 (arrive (program_of 4) (suc k) u₇)) (sym e') refl)

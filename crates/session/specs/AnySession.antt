@@ -483,3 +483,15 @@ FirstPlaceOfPeriod s bs =
     → length s.carried ≡ 24
     → zero_from (clean_from 0 (outstanding s).reads) bs ≡ true
     → StandsAt s (step_def s (reply 0 bs)) (hears (method unit s.driver (start_timed s.a >> Ok tt)) (cut (outstanding s) 0 bs))
+
+-- a call that goes on at a step
+abbrev pub GoesOnAt : ℕ → Outcome → Type 0
+GoesOnAt k (sent t s') = s'.step ≡ k
+GoesOnAt k (answered x n s') = ⊥
+GoesOnAt k (refused x s') = ⊥
+GoesOnAt k (broken s') = ⊥
+
+-- with no period lib.rs reads no oscillator word; a session that is handed in there goes on, and the product 0 is written
+abbrev pub NoPeriod : Session → List ℕ → Type 0
+NoPeriod s bs =
+    s.code ≡ 4 → s.step ≡ 7 → s.a ≡ 0 → Underway s → zero_from (outstanding s).reads bs ≡ true → GoesOnAt 8 (step_def s (reply 0 bs))
