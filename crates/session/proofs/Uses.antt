@@ -45,7 +45,7 @@ bytes_same i (suc n) c c' h = rw (h.0, bytes_same (suc i) n c c' h.1) refl
 abbrev pub budget_part : ℕ → Part
 budget_part k = cond (eqb k second_slot) own_budget argument_a
 
-budget_same : (k : ℕ) (c c' : Context) → part_in (budget_part k) c ≡ part_in (budget_part k) c' → budget_to_set k c ≡ budget_to_set k c'
+pub budget_same : (k : ℕ) (c c' : Context) → part_in (budget_part k) c ≡ part_in (budget_part k) c' → budget_to_set k c ≡ budget_to_set k c'
 budget_same k c c' = go (eqb k second_slot)
   where
     go : (t : Bool) → part_in (cond t own_budget argument_a) c ≡ part_in (cond t own_budget argument_a) c' → cond t c.own c.a ≡ cond t c'.own c'.a
@@ -55,7 +55,7 @@ budget_same k c c' = go (eqb k second_slot)
 abbrev pub word_parts : ℕ → List Part
 word_parts k = budget_part k ∷ bytes_in k 8
 
-word_same : (k : ℕ) (c c' : Context) → On (word_parts k) c c' → word_to_set k c ≡ word_to_set k c'
+pub word_same : (k : ℕ) (c c' : Context) → On (word_parts k) c c' → word_to_set k c ≡ word_to_set k c'
 word_same k c c' h =
     ap (λ bs. final_range_word (registers_of bs) (record { 0 = budget_to_set k c }) dss_of_call9) (bytes_same k 8 c c' h.1)
     ∙ ap (λ b. final_range_word (timing_in k c'.carried) (record { 0 = b }) dss_of_call9) (budget_same k c c' h.0)
@@ -64,7 +64,7 @@ word_same k c c' h =
 abbrev pub reply_bytes : ℕ → ℕ
 reply_bytes n = cond (leb n 5) (timing_place (suc n)) 8
 
-places_same : (n k : ℕ) (c c' : Context) → On (bytes_in k (reply_bytes n)) c c' → first_place (timing_in k c.carried) n ≡ first_place (timing_in k c'.carried) n
+pub places_same : (n k : ℕ) (c c' : Context) → On (bytes_in k (reply_bytes n)) c c' → first_place (timing_in k c.carried) n ≡ first_place (timing_in k c'.carried) n
 places_same n k c c' = go (leb n 5) refl
   where
     go : (t : Bool) → leb n 5 ≡ t → On (bytes_in k (cond t (timing_place (suc n)) 8)) c c' → first_place (timing_in k c.carried) n ≡ first_place (timing_in k c'.carried) n
@@ -72,70 +72,6 @@ places_same n k c c' = go (leb n 5) refl
         let le : n ≤ 5 = leb-true n 5 e in
         first_replies n le k c.carried ∙ ap (λ bs. first_place (registers_of bs) n) (bytes_same k (timing_place (suc n)) c c' h) ∙ sym (first_replies n le k c'.carried)
     go false e h = ap (λ bs. first_place (registers_of bs) n) (bytes_same k 8 c c' h)
-
-abbrev pub sends_of : Instruction → List Part
-sends_of Instruction.Nowhere = []
-sends_of (Instruction.Write reg b) = []
-sends_of (Instruction.WriteOr reg mask) = bytes_in 2 1
-sends_of (Instruction.WriteAnd reg mask) = bytes_in 2 1
-sends_of (Instruction.Read reg k) = []
-sends_of (Instruction.ReadWord reg k) = []
-sends_of Instruction.Identify = []
-sends_of Instruction.ReadMap = []
-sends_of Instruction.WriteMap = byte_in 3 ∷ bytes_in 16 6
-sends_of Instruction.WriteQuarter = []
-sends_of Instruction.WriteRate = argument_a ∷ []
-sends_of Instruction.WriteStop = []
-sends_of Instruction.Prepared = []
-sends_of Instruction.ReadOscillator = []
-sends_of Instruction.WritePeriod = argument_a ∷ bytes_in 8 2
-sends_of Instruction.WriteMode = argument_a ∷ []
-sends_of Instruction.WriteAddress = argument_a ∷ []
-sends_of Instruction.WriteLow = argument_a ∷ []
-sends_of Instruction.WriteHigh = argument_b ∷ []
-sends_of Instruction.WriteFunction = argument_a ∷ []
-sends_of Instruction.WritePolarity = argument_b ∷ bytes_in 2 1
-sends_of Instruction.ReadStatus = []
-sends_of (Instruction.ReadTiming n k) = []
-sends_of (Instruction.ReadLast k) = []
-sends_of Instruction.WriteSteps = []
-sends_of (Instruction.WriteWord k) = word_parts k
-sends_of Instruction.AwaitDetector = []
-sends_of Instruction.AwaitStatus = []
-sends_of Instruction.AwaitStart = []
-sends_of Instruction.ReadRange = []
-
-abbrev pub decides_of : Instruction → List Part
-decides_of Instruction.Nowhere = []
-decides_of (Instruction.Write reg b) = []
-decides_of (Instruction.WriteOr reg mask) = []
-decides_of (Instruction.WriteAnd reg mask) = []
-decides_of (Instruction.Read reg k) = []
-decides_of (Instruction.ReadWord reg k) = []
-decides_of Instruction.Identify = bytes_in 0 1
-decides_of Instruction.ReadMap = []
-decides_of Instruction.WriteMap = []
-decides_of Instruction.WriteQuarter = []
-decides_of Instruction.WriteRate = []
-decides_of Instruction.WriteStop = []
-decides_of Instruction.Prepared = argument_a ∷ []
-decides_of Instruction.ReadOscillator = argument_a ∷ bytes_in 8 2
-decides_of Instruction.WritePeriod = []
-decides_of Instruction.WriteMode = []
-decides_of Instruction.WriteAddress = []
-decides_of Instruction.WriteLow = []
-decides_of Instruction.WriteHigh = []
-decides_of Instruction.WriteFunction = []
-decides_of Instruction.WritePolarity = []
-decides_of Instruction.ReadStatus = bytes_in 2 1
-decides_of (Instruction.ReadTiming n k) = bytes_in k (reply_bytes n)
-decides_of (Instruction.ReadLast k) = word_parts k
-decides_of Instruction.WriteSteps = own_budget ∷ []
-decides_of (Instruction.WriteWord k) = []
-decides_of Instruction.AwaitDetector = []
-decides_of Instruction.AwaitStatus = []
-decides_of Instruction.AwaitStart = []
-decides_of Instruction.ReadRange = []
 
 abbrev pub SendsFrom : Op → List Part → Type 0
 SendsFrom (write reg bytes len over after) ps = (c c' : Context) → Kin c c' → On ps c c' → bytes c ≡ bytes c'
@@ -149,69 +85,56 @@ DecidesFrom (read reg len slot over after) ps = (c c' : Context) → On ps c c' 
 DecidesFrom (wait w) ps = Unit {0}
 DecidesFrom range ps = Unit {0}
 
+-- an instruction, with the parts that its transfer is made of and those that its verdict looks at
+pub record Uses (i : Instruction) : Type 0 where
+  pub sends : List Part
+  pub sent : SendsFrom (op_of i) sends
+  pub decides : List Part
+  pub decided : DecidesFrom (op_of i) decides
+
+abbrev pub uses_of : (i : Instruction) → Uses i
+uses_of Instruction.Nowhere = record { sends = []; sent = λ c c' m h. refl; decides = []; decided = λ c c' h. refl }
+uses_of (Instruction.Write reg b) = record { sends = []; sent = λ c c' m h. refl; decides = []; decided = λ c c' h. refl }
+uses_of (Instruction.WriteOr reg mask) = record { sends = bytes_in 2 1; sent = λ c c' m h. rw h.0 refl; decides = []; decided = λ c c' h. refl }
+uses_of (Instruction.WriteAnd reg mask) = record { sends = bytes_in 2 1; sent = λ c c' m h. rw h.0 refl; decides = []; decided = λ c c' h. refl }
+uses_of (Instruction.Read reg k) = record { sends = []; sent = tt; decides = []; decided = λ c c' h. refl }
+uses_of (Instruction.ReadWord reg k) = record { sends = []; sent = tt; decides = []; decided = λ c c' h. refl }
+uses_of Instruction.Identify = record { sends = []; sent = tt; decides = bytes_in 0 1; decided = λ c c' h. rw h.0 refl }
+uses_of Instruction.ReadMap = record { sends = []; sent = tt; decides = []; decided = λ c c' h. refl }
+uses_of Instruction.WriteMap = record { sends = byte_in 3 ∷ bytes_in 16 6; sent = λ c c' m h. rw (h.0, bytes_same 16 6 c c' h.1) refl; decides = []; decided = λ c c' h. refl }
+uses_of Instruction.WriteQuarter = record { sends = []; sent = λ c c' m h. refl; decides = []; decided = λ c c' h. refl }
+uses_of Instruction.WriteRate = record { sends = argument_a ∷ []; sent = λ c c' m h. rw h.0 refl; decides = []; decided = λ c c' h. refl }
+uses_of Instruction.WriteStop = record { sends = []; sent = λ c c' m h. rw m.driver refl; decides = []; decided = λ c c' h. refl }
+uses_of Instruction.Prepared = record { sends = []; sent = λ c c' m h. refl; decides = argument_a ∷ []; decided = λ c c' h. rw h.0 refl }
+uses_of Instruction.ReadOscillator = record { sends = []; sent = tt; decides = argument_a ∷ bytes_in 8 2; decided = λ c c' h. rw (h.0, h.1.0, h.1.1.0) refl }
+uses_of Instruction.WritePeriod = record { sends = argument_a ∷ bytes_in 8 2; sent = λ c c' m h. rw (h.0, h.1.0, h.1.1.0) refl; decides = []; decided = λ c c' h. refl }
+uses_of Instruction.WriteMode = record { sends = argument_a ∷ []; sent = λ c c' m h. rw h.0 refl; decides = []; decided = λ c c' h. refl }
+uses_of Instruction.WriteAddress = record { sends = argument_a ∷ []; sent = λ c c' m h. rw h.0 refl; decides = []; decided = λ c c' h. refl }
+uses_of Instruction.WriteLow = record { sends = argument_a ∷ []; sent = λ c c' m h. rw h.0 refl; decides = []; decided = λ c c' h. refl }
+uses_of Instruction.WriteHigh = record { sends = argument_b ∷ []; sent = λ c c' m h. rw h.0 refl; decides = []; decided = λ c c' h. refl }
+uses_of Instruction.WriteFunction = record { sends = argument_a ∷ []; sent = λ c c' m h. rw h.0 refl; decides = []; decided = λ c c' h. refl }
+uses_of Instruction.WritePolarity = record { sends = argument_b ∷ bytes_in 2 1; sent = λ c c' m h. rw (h.0, h.1.0) refl; decides = []; decided = λ c c' h. refl }
+uses_of Instruction.ReadStatus = record { sends = []; sent = tt; decides = bytes_in 2 1; decided = λ c c' h. rw h.0 refl }
+uses_of (Instruction.ReadTiming n k) = record { sends = []; sent = tt; decides = bytes_in k (reply_bytes n); decided = λ c c' h. ap by_place (places_same n k c c' h) }
+uses_of (Instruction.ReadLast k) = record { sends = []; sent = tt; decides = word_parts k; decided = λ c c' h. ap (by_word (no_time k)) (word_same k c c' h) }
+uses_of Instruction.WriteSteps = record { sends = []; sent = λ c c' m h. refl; decides = own_budget ∷ []; decided = λ c c' h. rw h.0 refl }
+uses_of (Instruction.WriteWord k) = record { sends = word_parts k; sent = λ c c' m h. rw (word_same k c c' h) refl; decides = []; decided = λ c c' h. refl }
+uses_of Instruction.AwaitDetector = record { sends = []; sent = tt; decides = []; decided = tt }
+uses_of Instruction.AwaitStatus = record { sends = []; sent = tt; decides = []; decided = tt }
+uses_of Instruction.AwaitStart = record { sends = []; sent = tt; decides = []; decided = tt }
+uses_of Instruction.ReadRange = record { sends = []; sent = tt; decides = []; decided = tt }
+
+abbrev pub sends_of : Instruction → List Part
+sends_of i = (uses_of i).sends
+
+abbrev pub decides_of : Instruction → List Part
+decides_of i = (uses_of i).decides
+
 pub sends_from : (i : Instruction) → SendsFrom (op_of i) (sends_of i)
-sends_from Instruction.Nowhere = λ c c' m h. refl
-sends_from (Instruction.Write reg b) = λ c c' m h. refl
-sends_from (Instruction.WriteOr reg mask) = λ c c' m h. rw h.0 refl
-sends_from (Instruction.WriteAnd reg mask) = λ c c' m h. rw h.0 refl
-sends_from (Instruction.Read reg k) = tt
-sends_from (Instruction.ReadWord reg k) = tt
-sends_from Instruction.Identify = tt
-sends_from Instruction.ReadMap = tt
-sends_from Instruction.WriteMap = λ c c' m h. rw (h.0, bytes_same 16 6 c c' h.1) refl
-sends_from Instruction.WriteQuarter = λ c c' m h. refl
-sends_from Instruction.WriteRate = λ c c' m h. rw h.0 refl
-sends_from Instruction.WriteStop = λ c c' m h. rw m.driver refl
-sends_from Instruction.Prepared = λ c c' m h. refl
-sends_from Instruction.ReadOscillator = tt
-sends_from Instruction.WritePeriod = λ c c' m h. rw (h.0, h.1.0, h.1.1.0) refl
-sends_from Instruction.WriteMode = λ c c' m h. rw h.0 refl
-sends_from Instruction.WriteAddress = λ c c' m h. rw h.0 refl
-sends_from Instruction.WriteLow = λ c c' m h. rw h.0 refl
-sends_from Instruction.WriteHigh = λ c c' m h. rw h.0 refl
-sends_from Instruction.WriteFunction = λ c c' m h. rw h.0 refl
-sends_from Instruction.WritePolarity = λ c c' m h. rw (h.0, h.1.0) refl
-sends_from Instruction.ReadStatus = tt
-sends_from (Instruction.ReadTiming n k) = tt
-sends_from (Instruction.ReadLast k) = tt
-sends_from Instruction.WriteSteps = λ c c' m h. refl
-sends_from (Instruction.WriteWord k) = λ c c' m h. rw (word_same k c c' h) refl
-sends_from Instruction.AwaitDetector = tt
-sends_from Instruction.AwaitStatus = tt
-sends_from Instruction.AwaitStart = tt
-sends_from Instruction.ReadRange = tt
+sends_from i = (uses_of i).sent
 
 pub decides_from : (i : Instruction) → DecidesFrom (op_of i) (decides_of i)
-decides_from Instruction.Nowhere = λ c c' h. refl
-decides_from (Instruction.Write reg b) = λ c c' h. refl
-decides_from (Instruction.WriteOr reg mask) = λ c c' h. refl
-decides_from (Instruction.WriteAnd reg mask) = λ c c' h. refl
-decides_from (Instruction.Read reg k) = λ c c' h. refl
-decides_from (Instruction.ReadWord reg k) = λ c c' h. refl
-decides_from Instruction.Identify = λ c c' h. rw h.0 refl
-decides_from Instruction.ReadMap = λ c c' h. refl
-decides_from Instruction.WriteMap = λ c c' h. refl
-decides_from Instruction.WriteQuarter = λ c c' h. refl
-decides_from Instruction.WriteRate = λ c c' h. refl
-decides_from Instruction.WriteStop = λ c c' h. refl
-decides_from Instruction.Prepared = λ c c' h. rw h.0 refl
-decides_from Instruction.ReadOscillator = λ c c' h. rw (h.0, h.1.0, h.1.1.0) refl
-decides_from Instruction.WritePeriod = λ c c' h. refl
-decides_from Instruction.WriteMode = λ c c' h. refl
-decides_from Instruction.WriteAddress = λ c c' h. refl
-decides_from Instruction.WriteLow = λ c c' h. refl
-decides_from Instruction.WriteHigh = λ c c' h. refl
-decides_from Instruction.WriteFunction = λ c c' h. refl
-decides_from Instruction.WritePolarity = λ c c' h. refl
-decides_from Instruction.ReadStatus = λ c c' h. rw h.0 refl
-decides_from (Instruction.ReadTiming n k) = λ c c' h. ap by_place (places_same n k c c' h)
-decides_from (Instruction.ReadLast k) = λ c c' h. ap (by_word (no_time k)) (word_same k c c' h)
-decides_from Instruction.WriteSteps = λ c c' h. rw h.0 refl
-decides_from (Instruction.WriteWord k) = λ c c' h. refl
-decides_from Instruction.AwaitDetector = tt
-decides_from Instruction.AwaitStatus = tt
-decides_from Instruction.AwaitStart = tt
-decides_from Instruction.ReadRange = tt
+decides_from i = (uses_of i).decided
 
 -- and what the end of a call does, by its code
 unfoldable pub ends_of : List (List Part)
