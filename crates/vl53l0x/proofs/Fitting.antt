@@ -43,6 +43,10 @@ resting_fits d h = record { budget = h; a = omega arith; b = omega arith; idle =
 held_small : (code : ℕ) (d : Driver) → d.budget < 4294967296 → (held_by code d).budget < 4294967296
 held_small code d h = cond_case (λ (x : Driver). x.budget < 4294967296) (eqb code 1) (λ e. omega arith) (λ e. h)
 
+-- an end other than success
+gives_fits : (s : Session) → Fits s → Fits (resting (held_by s.code s.driver))
+gives_fits s h = resting_fits (held_by s.code s.driver) (held_small s.code s.driver h.budget)
+
 -- the budget that the replies give
 sum_small : (r : TimingRegisters) (p : Option Place) → (time_in (budget_after p r)).0 < 4294967296
 sum_small r None = budget_fits r
@@ -99,7 +103,7 @@ final_fits code s h =
 
 conclude_fits : (f : Final) (s : Session) → Fits s → FinalFits f → FitsAfter (conclude f s)
 conclude_fits (success v d) s h k = resting_fits d k
-conclude_fits (failure e) s h k = resting_fits (held_by s.code s.driver) (held_small s.code s.driver h.budget)
+conclude_fits (failure e) s h k = gives_fits s h
 
 -- where a call goes on, or ends
 arrive_fits : (s : Session) (k : ℕ) → Fits s → Room s → FitsAfter (arrive (program_of s.code) k s)
@@ -113,16 +117,13 @@ arrive_fits s k h room = go (drop k (ops_of (program_of s.code)))
 decide_fits : (v : Verdict) (s : Session) (over k : ℕ) → Fits s → Room s → FitsAfter (decide v (program_of s.code) over k s)
 decide_fits onward s over k h room = arrive_fits s k h room
 decide_fits leap s over k h room = arrive_fits s (k + over) h room
-decide_fits (stop x) s over k h room = resting_fits (held_by s.code s.driver) (held_small s.code s.driver h.budget)
+decide_fits (stop x) s over k h room = gives_fits s h
 decide_fits (test b v w) s over k h room = cond_case FitsAfter b (λ e. decide_fits v s over k h room) (λ e. decide_fits w s over k h room)
 
 limit_small : (code : ℕ) (x : Condition) → wait_limit code x ≤ 65535
 limit_small code detector_ready = omega arith
 limit_small code status_ready = omega arith
 limit_small code started = omega arith
-
-gives_fits : (s : Session) → Fits s → Fits (resting (held_by s.code s.driver))
-gives_fits s h = resting_fits (held_by s.code s.driver) (held_small s.code s.driver h.budget)
 
 react_fits : (op : Op) (s : Session) (r : Reply) → Fits s → Room s → FitsAfter (react op (program_of s.code) s r)
 react_fits (write reg bytes len over after) s (bad e) h room = gives_fits s h

@@ -24,7 +24,8 @@ made_fresh l = record { session = placed session_size l.session (session_bytes f
 abbrev pub stepped : Lent → List ℕ → Lent
 stepped l r = record { session = step_session l.session r l.outcome; outcome = placed outcome_size l.outcome (step_outcome l.session r) }
 
--- after records, one after the other: the session's bytes at the end, and what each left in the outcome, in order
+-- 01: "Each record meets the session that the one before it left".
+-- The session's bytes after the last of them, and what each left in the outcome, in order
 abbrev pub session_left : Lent → List (List ℕ) → List ℕ
 session_left l [] = l.session
 session_left l (r ∷ rs) = session_left (stepped l r) rs
@@ -68,7 +69,8 @@ pub record Handed (l : Lent) (bytes : List ℕ) : Type 0 where
 abbrev pub FreshSteps : Type 0
 FreshSteps = (l : Lent) (bytes : List ℕ) → Handed l bytes → StepsFresh l bytes
 
--- from any session that is handed in, too, where the list run goes through: answer 15 gives back the whole run, but no step that was made before it
+-- and from any bytes that are a session, where the list run goes through to its end. Where a record meets an ill-formed session it gives back the
+-- session as it was given, and a caller who steps has what the records before that one left
 abbrev pub AnySteps : Type 0
 AnySteps =
     (l : Lent) (bytes : List ℕ) → Handed l bytes → is_session l.session ≡ true → are_bytes l.session ≡ true
