@@ -97,22 +97,23 @@ record Along (run : Run) (l : Lent) (rs : List (List ℕ)) (h : List Entry) : Ty
   session : session_left l rs ≡ session_bytes run.session
   outcomes : outcomes_of h (outcomes_left l rs) ≡ outcomes_of run.history []
 
--- and where an outcome has just been written
-record Then (run : Run) (l : Lent) (rs : List (List ℕ)) (h : List Entry) : Type 0 where
-  session : session_left l rs ≡ session_bytes run.session
-  outcomes : outcomes_of h (l.outcome ∷ outcomes_left l rs) ≡ outcomes_of run.history []
-
+-- what one record leaves of what was lent
 abbrev lent_by : Outcome → Lent
 lent_by o = record { session = session_bytes (left_by o); outcome = got_bytes (got_of o) }
 
-along : (given : Session) (rs : List (List ℕ)) → Eights rs → (s : Session) (h : List Entry) (out : List ℕ) → Fits s → length out ≡ 11
+abbrev Onward : Session → List (List ℕ) → Type 0
+Onward given rs =
+    (s : Session) (h : List Entry) (out : List ℕ) → Fits s → length out ≡ 11
     → (run_from given (map record_in rs) s h).answer ≡ Answer.Done 0
     → Along (run_from given (map record_in rs) s h) (record { session = session_bytes s; outcome = out }) rs h
+
+along : (given : Session) (rs : List (List ℕ)) → Eights rs → Onward given rs
 unfolding run_from
 along given [] e s h out fits room done = record { session = refl; outcomes = refl }
 along given (r ∷ rs) e s h out fits room done =
+    let o = step_def s (record_in r) in
     let q = one_step s fits out r room e.0 in
-    let n = go (step_def s (record_in r)) (step_fits s r fits e.1) (eleven s (step_def s (record_in r)) (demand_1 s (record_in r)).single) done (along given rs e.2) in
+    let n = go o (step_fits s r fits e.1) (eleven s o (demand_1 s (record_in r)).single) done (along given rs e.2) in
     record {
       session = ap (λ (l : Lent). session_left l rs) q ∙ n.session;
       outcomes = ap (λ (l : Lent). outcomes_of h (l.outcome ∷ outcomes_left l rs)) q ∙ n.outcomes;
@@ -120,17 +121,11 @@ along given (r ∷ rs) e s h out fits room done =
   where
     go : (o : Outcome) → Fits (left_by o) → length (got_bytes (got_of o)) ≡ 11
         → (taking o given h (record_in r) (run_from given (map record_in rs))).answer ≡ Answer.Done 0
-        → ((s' : Session) (h' : List Entry) (out' : List ℕ) → Fits s' → length out' ≡ 11 → (run_from given (map record_in rs) s' h').answer ≡ Answer.Done 0 → Along (run_from given (map record_in rs) s' h') (record { session = session_bytes s'; outcome = out' }) rs h')
-        → Then (taking o given h (record_in r) (run_from given (map record_in rs))) (lent_by o) rs h
-    go (sent t s') f n d k =
-        let p = k s' (record { what = record_in r; got = transfer t } ∷ h) (got_bytes (transfer t)) f n d in
-        record { session = p.session; outcomes = p.outcomes }
-    go (answered x m s') f n d k =
-        let p = k s' (record { what = record_in r; got = answer x m } ∷ h) (got_bytes (answer x m)) f n d in
-        record { session = p.session; outcomes = p.outcomes }
-    go (refused x s') f n d k =
-        let p = k s' (record { what = record_in r; got = refusal x } ∷ h) (got_bytes (refusal x)) f n d in
-        record { session = p.session; outcomes = p.outcomes }
+        → Onward given rs
+        → Along (taking o given h (record_in r) (run_from given (map record_in rs))) (lent_by o) rs (record { what = record_in r; got = got_of o } ∷ h)
+    go (sent t s') f n d k = k s' (record { what = record_in r; got = transfer t } ∷ h) (got_bytes (transfer t)) f n d
+    go (answered x m s') f n d k = k s' (record { what = record_in r; got = answer x m } ∷ h) (got_bytes (answer x m)) f n d
+    go (refused x s') f n d k = k s' (record { what = record_in r; got = refusal x } ∷ h) (got_bytes (refusal x)) f n d
     go (broken s') f n d k = cc
 
 -- the whole run, from any session whose numbers fit
