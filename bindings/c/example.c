@@ -22,13 +22,14 @@ static void expect(const char *what, uint32_t found, uint32_t wanted)
     }
 }
 
-/* Runs one call to its answer. This loop is all that a program on a real bus needs. */
-static uint8_t drive(struct reader *reader, uint8_t code, uint32_t a, uint16_t b)
+/*
+ * Runs the call of a record to its answer. The replies are put where the record was. This loop is all that a program on
+ * a real bus needs.
+ */
+static uint8_t drive(struct reader *reader, uint8_t *record)
 {
     uint8_t *outcome = reader->outcome;
-    uint8_t record[VL53L0X_RECORD_SIZE];
-    vl53l0x_put_call(record, code, a, b);
-    while (vl53l0x_step(reader->session, sizeof reader->session, record, sizeof record, outcome,
+    while (vl53l0x_step(reader->session, sizeof reader->session, record, VL53L0X_RECORD_SIZE, outcome,
                         VL53L0X_OUTCOME_SIZE) == VL53L0X_TRANSFER) {
         uint8_t data[VL53L0X_MOST_READ];
         uint8_t reads = vl53l0x_transfer_reads(outcome);
@@ -44,11 +45,18 @@ static uint8_t drive(struct reader *reader, uint8_t code, uint32_t a, uint16_t b
     return outcome[0];
 }
 
+static uint8_t drive_call(struct reader *reader, uint8_t code, uint32_t a)
+{
+    uint8_t record[VL53L0X_RECORD_SIZE];
+    vl53l0x_put_call(record, code, a, 0);
+    return drive(reader, record);
+}
+
 /* Runs one call that has to be answered so, after as many transfers as the simulator has seen. Returns its value. */
 static uint32_t call(struct reader *reader, uint8_t answer, uint8_t code, uint32_t a)
 {
     uint32_t before = reader->sensor.transfers;
-    expect("the answer", drive(reader, code, a, 0), answer);
+    expect("the answer", drive_call(reader, code, a), answer);
     expect("the count of transfers", vl53l0x_answer_transfers(reader->outcome), reader->sensor.transfers - before);
     return vl53l0x_answer_value(reader->outcome);
 }
@@ -61,8 +69,11 @@ static uint32_t transfers(const struct reader *reader)
 static void bring_up(struct reader *reader)
 {
     const uint8_t *session = reader->session;
+    uint8_t record[VL53L0X_RECORD_SIZE];
     expect("what vl53l0x_fresh returns", vl53l0x_fresh(reader->session, sizeof reader->session), 0);
-    call(reader, VL53L0X_DONE, VL53L0X_WITH_ADDRESS, VL53L0X_DEFAULT_ADDRESS);
+    vl53l0x_put_new(record);
+    expect("the answer", drive(reader, record), VL53L0X_DONE);
+    expect("the count of transfers", transfers(reader), reader->sensor.transfers);
     expect("up", vl53l0x_session_up(session), 1);
     expect("the address", vl53l0x_session_address(session), reader->sensor.address);
     expect("the stop byte", vl53l0x_session_stop(session), reader->sensor.stop);
@@ -115,7 +126,7 @@ static void read_on_noisy_bus(struct reader *reader)
     simulator_fail_one_in(&reader->sensor, 100);
     for (uint16_t distance = 100; distance < 150; distance++) {
         simulator_set_distance(&reader->sensor, distance);
-        while (drive(reader, VL53L0X_READ_RANGE_SINGLE_MILLIMETERS_BLOCKING, 0, 0) == VL53L0X_BUS_ERROR) {
+        while (drive_call(reader, VL53L0X_READ_RANGE_SINGLE_MILLIMETERS_BLOCKING, 0) == VL53L0X_BUS_ERROR) {
             expect("the failure code", vl53l0x_answer_value(reader->outcome), reader->sensor.last_failure);
             broken++;
         }

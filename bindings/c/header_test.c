@@ -23,6 +23,7 @@ static int same(const uint8_t *bytes, const uint8_t *expected, size_t count)
 static void records(void)
 {
     static const uint8_t call[] = {1, 10, 0x12, 0x34, 0x56, 0x78, 0x9A, 0xBC};
+    static const uint8_t bring_up[] = {1, 1, 0, 0, 0, 0x29, 0, 0};
     static const uint8_t reply[] = {2, 0, 1, 2, 3, 4, 5, 6};
     static const uint8_t word[] = {2, 0, 1, 2, 0, 0, 0, 0};
     static const uint8_t nothing[] = {2, 0, 0, 0, 0, 0, 0, 0};
@@ -33,6 +34,8 @@ static void records(void)
 
     vl53l0x_put_call(record, VL53L0X_SET_INTERRUPT_THRESHOLDS_MM, 0x12345678, 0x9ABC);
     CHECK(same(record, call, sizeof call));
+    vl53l0x_put_new(record);
+    CHECK(same(record, bring_up, sizeof bring_up));
     vl53l0x_put_reply(record, data, 6);
     CHECK(same(record, reply, sizeof reply));
     vl53l0x_put_reply(record, data, 2);

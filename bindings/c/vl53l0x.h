@@ -4,7 +4,7 @@
  * The library makes no transfer itself. A caller keeps a session, hands it records and does what each outcome says:
  *
  *   1. vl53l0x_fresh makes a session.
- *   2. vl53l0x_step is handed the record of a call (vl53l0x_put_call).
+ *   2. vl53l0x_step is handed the record of a call (vl53l0x_put_call), first of all a bring-up (vl53l0x_put_new).
  *   3. While it returns VL53L0X_TRANSFER, the caller makes that transfer on the bus and hands in the record of its
  *      reply (vl53l0x_put_reply or vl53l0x_put_failure). Anything else that it returns is the answer.
  *
@@ -35,12 +35,12 @@ enum {
     VL53L0X_OUTCOME_SIZE = 11,
     VL53L0X_MOST_WRITTEN = 7, /* bytes that a transfer writes at most */
     VL53L0X_MOST_READ = 6,    /* bytes that a transfer reads at most */
-    VL53L0X_DEFAULT_ADDRESS = 0x29
+    VL53L0X_DEFAULT_ADDRESS = 0x29 /* where a sensor answers after power-up */
 };
 
 /* Codes of the calls, with their arguments A and B and their value. An argument that is not named is 0. */
 enum {
-    /* Bring-up. A: address, any byte. */
+    /* Bring-up. A: address, any byte. vl53l0x_put_new makes it with VL53L0X_DEFAULT_ADDRESS. */
     VL53L0X_WITH_ADDRESS = 1,
     /* Value: the identity. */
     VL53L0X_WHO_AM_I = 2,
@@ -162,6 +162,12 @@ static inline void vl53l0x_put_call(uint8_t *record, uint8_t code, uint32_t a, u
     record[1] = code;
     vl53l0x_put_high_first_32(record + 2, a);
     vl53l0x_put_high_first_16(record + 6, b);
+}
+
+/* The Rust driver's `new`: a bring-up at the address that a sensor has after power-up. */
+static inline void vl53l0x_put_new(uint8_t *record)
+{
+    vl53l0x_put_call(record, VL53L0X_WITH_ADDRESS, VL53L0X_DEFAULT_ADDRESS, 0);
 }
 
 /*

@@ -28,7 +28,7 @@ impl Reader {
     }
 
     fn bring_up(&mut self) {
-        let transfers = self.done(Call::WithAddress(0x29), 0);
+        let transfers = self.done(Call::NEW, 0);
         let Reader { session, sensor } = self;
         assert!(session.up());
         assert_eq!(session.address(), sensor.address());

@@ -1,9 +1,12 @@
 //! The fifteen calls, in the Rust driver's names.
 
+/// The address that a sensor has after power-up.
+pub const DEFAULT_ADDRESS: u8 = 0x29;
+
 /// A call and its arguments.
 #[derive(Clone, Copy, Debug, PartialEq)]
 pub enum Call {
-    /// Brings the sensor at this address up; `new` of the Rust driver is this at 0x29.
+    /// Brings the sensor at this address up. [`Call::NEW`] is this at [`DEFAULT_ADDRESS`].
     WithAddress(u8),
     /// Reads the identity.
     WhoAmI,
@@ -58,6 +61,9 @@ pub enum GpioPolarity {
 }
 
 impl Call {
+    /// `new` of the Rust driver: brings the sensor at [`DEFAULT_ADDRESS`] up.
+    pub const NEW: Call = Call::WithAddress(DEFAULT_ADDRESS);
+
     /// The record of this call: 1, its code, argument A (four bytes) and B (two), high byte first.
     pub fn record(self) -> [u8; 8] {
         let (code, a, b) = match self {

@@ -11,7 +11,7 @@
 //! let mut bus = |_address: u8, _write: &[u8], _read: &mut [u8]| Err(4);
 //!
 //! let mut session = Session::new();
-//! let (answer, transfers) = drive(&mut session, &mut bus, Call::WithAddress(0x29));
+//! let (answer, transfers) = drive(&mut session, &mut bus, Call::NEW);
 //! assert_eq!((answer, transfers), (Answer::BusError(4), 1));
 //! ```
 //!
@@ -30,6 +30,6 @@ mod reply;
 mod session;
 
 pub use bus::{drive, Bus};
-pub use call::{Call, GpioFunctionality, GpioPolarity};
+pub use call::{Call, GpioFunctionality, GpioPolarity, DEFAULT_ADDRESS};
 pub use outcome::{Answer, Outcome, Transfer};
 pub use session::Session;

@@ -8,9 +8,12 @@ const WHO_AM_I: [u8; 8] = [1, 2, 0, 0, 0, 0, 0, 0];
 const REPLY: [u8; 8] = [2, 0, 0xEE, 0, 0, 0, 0, 0];
 const FAILURE: [u8; 8] = [2, 7, 0, 0, 0, 0, 0, 0];
 
+/// The measurement timing budget of a sensor that is up, in microseconds.
+const BUDGET: u32 = 33_000;
+
 /// A session of a sensor that is up.
 fn up() -> [u8; 52] {
-    with(FRESH, 0, &[1, 0x29, 0x3C, 0x00, 0x00, 0x80, 0xE8])
+    with(with(FRESH, 0, &[1, 0x29, 0x3C]), 3, &BUDGET.to_le_bytes())
 }
 
 /// A session that waits for the reply to `who_am_i`.
@@ -98,6 +101,17 @@ fn a_fresh_session_has_52_bytes() {
         let bytes = vec![0x5A; length];
         assert_eq!(lend(&bytes, exported::fresh), (15, bytes));
     }
+}
+
+/// The session that the tests lay out is the one that the library leaves once it has set that budget.
+#[test]
+fn a_budget_stands_low_byte_first() {
+    let mut session = with(up(), 3, &[0; 4]);
+    let mut record = with([1, 9, 0, 0, 0, 0, 0, 0], 2, &BUDGET.to_be_bytes());
+    while step(&mut session, &record).0 == 16 {
+        record = [2, 0, 0, 0, 0, 0, 0, 0];
+    }
+    assert_eq!(session, up());
 }
 
 #[test]

@@ -10,14 +10,15 @@ fn on(sensor: &mut Simulator, session: &mut Session, call: Call) -> (Answer, u32
 
 fn brought_up(sensor: &mut Simulator) -> Session {
     let mut session = Session::new();
-    assert_eq!(on(sensor, &mut session, Call::WithAddress(0x29)).0, Answer::Done(0));
+    assert_eq!(on(sensor, &mut session, Call::NEW).0, Answer::Done(0));
     session
 }
 
 #[test]
 fn calls_have_their_records() {
     for (call, record) in [
-        (Call::WithAddress(0x29), [1, 1, 0, 0, 0, 0x29, 0, 0]),
+        (Call::NEW, [1, 1, 0, 0, 0, 0x29, 0, 0]),
+        (Call::WithAddress(0x30), [1, 1, 0, 0, 0, 0x30, 0, 0]),
         (Call::WhoAmI, [1, 2, 0, 0, 0, 0, 0, 0]),
         (Call::SetAddress(0x30), [1, 3, 0, 0, 0, 0x30, 0, 0]),
         (Call::StartContinuous(0x1234_5678), [1, 4, 0x12, 0x34, 0x56, 0x78, 0, 0]),
@@ -83,7 +84,7 @@ fn outcomes_are_read_from_their_bytes() {
 #[test]
 fn a_session_is_put_away_and_taken_up_again() {
     let (mut sensor, mut session) = (Simulator::new(3), Session::new());
-    let mut outcome = session.begin(Call::WithAddress(0x29));
+    let mut outcome = session.begin(Call::NEW);
     let mut transfers = 0;
     while let Outcome::Transfer(transfer) = outcome {
         transfers += 1;
@@ -183,7 +184,7 @@ fn settings_reach_the_sensor() {
 fn sessions_are_independent() {
     let run = |seeds: &[u64]| -> Vec<Vec<Outcome>> {
         let mut all: Vec<_> = seeds.iter().map(|seed| (Simulator::new(*seed), Session::new(), Vec::new())).collect();
-        for call in [Call::WithAddress(0x29), Call::ReadRangeSingleMillimetersBlocking] {
+        for call in [Call::NEW, Call::ReadRangeSingleMillimetersBlocking] {
             all.iter_mut().for_each(|(_, session, outcomes)| outcomes.push(session.begin(call)));
             let mut waits = true;
             while waits {

@@ -1,5 +1,6 @@
 // The beginning of a call.
 ghost use Rattle.std.specs.Prelude.{◌≡◌};
+ghost use Rattle.session.specs.Calls.{default_address};
 ghost use Rattle.session.specs.Machine.{begun, not_up, begin_def, other_def};
 ghost use Rattle.reactions.specs.Outcome.{outcome_of};
 ghost use Rattle.reactions.specs.Reactions.{Reaches};
@@ -65,6 +66,23 @@ pub fn begin(s: Session, call: CallRecord) -> Outcome
     ensures { result ≡ outcome_of (begin_def s call.code call.a call.b) }
 {
     go(begin_course(s, call))
+}
+
+// lib.rs: DEFAULT_ADDRESS, at which the sensor stands after power is switched on.
+pub const DEFAULT_ADDRESS: u8 = 0x29;
+
+// lib.rs: new, which is `with_address` at that address.
+pub fn begin_new(s: Session) -> Outcome
+    ensures { result ≡ outcome_of (begin_def s 1 default_address 0) }
+{
+    begin(
+        s,
+        CallRecord {
+            code: WITH_ADDRESS,
+            a: u32::from(DEFAULT_ADDRESS),
+            b: 0,
+        },
+    )
 }
 
 // A record that is neither a call nor a reply.

@@ -7,7 +7,7 @@ mod replies;
 ghost use Rattle.std.specs.Prelude.{◌≡◌};
 ghost use Rattle.session.specs.Machine.{fresh_session};
 
-pub use begins::{begin, begin_course, other_course};
+pub use begins::{DEFAULT_ADDRESS, begin, begin_course, begin_new, other_course};
 pub use replies::{outstanding, reply, reply_course};
 use session::{Driver, Session};
 

@@ -49,7 +49,7 @@ spread (suc n) k l h =
     let e : k + suc n ≡ suc k + n = omega arith in
     rw e (drop-cons l k 0 (omega arith) ∙ ap (λ (r : List ℕ). byte k l ∷ r) (spread n (suc k) l (omega arith)))
 
-below : (l : List ℕ) (k : ℕ) → are_bytes l ≡ true → byte k l < 256
+pub below : (l : List ℕ) (k : ℕ) → are_bytes l ≡ true → byte k l < 256
 below [] k h = omega arith
 below (x ∷ xs) zero h = ltb-true x 256 (both (ltb x 256) (are_bytes xs) h).0
 below (x ∷ xs) (suc k) h = below xs k (both (ltb x 256) (are_bytes xs) h).1

@@ -1,1 +1,3 @@
 pub mod Keeps
+pub mod Fitting
+pub mod Stepping

@@ -1,10 +1,13 @@
 //! Chosen cases: every call, a failure at each of its transfers, each wait at its limit, each place.
 
-use crate::bus::ADDRESS;
+use crate::bus::{Bus, ADDRESS};
 use crate::call::{Answer, Call, CALLS, FUNCTIONALITIES, POLARITIES};
 use crate::refused::Refusing;
 use crate::sides::Sides;
 use crate::tally::Tally;
+use vl53l0x::inner::{self, Fields};
+use vl53l0x::VL53L0x;
+use vl53l0x_session::{Outcome, Session};
 use vl53l0x_simulator::{Simulator, Wait, NOBODY_ANSWERS};
 
 const BRING_UP: Call = Call::WithAddress(ADDRESS);
@@ -12,6 +15,7 @@ const DONE: Answer = Answer(0, 0);
 
 pub fn run(tally: &mut Tally) {
     every_call(tally);
+    new();
     failed_transfers(tally);
     failed_range_reads(tally);
     waits(tally);
@@ -46,6 +50,30 @@ fn every_call(tally: &mut Tally) {
         assert_eq!(sides.make(Call::ReadRangeContinuous), Answer(0, 505));
         assert_eq!(sides.make(Call::StopContinuous), DONE);
         assert_eq!(sides.make(Call::WithAddress(0x30)), DONE);
+    }
+}
+
+/// The call `NEW` of the wrapper on the replies that the Rust driver's own `new` has had.
+fn new() {
+    for seed in 1..=4 {
+        let mut sensor = Simulator::new(seed);
+        let mut spoil = |_: &[u8], _: &mut [u8]| ();
+        let mut bus = Bus::new(&mut sensor, &mut spoil);
+        let fields = VL53L0x::new(&mut bus).map(|chip| inner::fields(&chip)).ok().expect("no failure");
+        let Fields { stop_variable, measurement_timing_budget_microseconds, address } = fields;
+
+        let mut session = Session::new();
+        let mut outcome = session.begin(vl53l0x_session::Call::NEW);
+        for exchange in &bus.exchanges {
+            assert_eq!(Some(outcome), Outcome::from_bytes(&exchange.outcome()), "sensor {seed}, new");
+            outcome = session.step(&exchange.record());
+        }
+        let (answer, transfers) = (vl53l0x_session::Answer::Done(0), bus.exchanges.len() as u32);
+        assert_eq!(outcome, Outcome::Answer { answer, transfers }, "sensor {seed}, new");
+        assert_eq!(
+            (session.up(), session.address(), session.stop(), session.budget()),
+            (true, address, stop_variable, measurement_timing_budget_microseconds)
+        );
     }
 }
 
