@@ -1,25 +1,30 @@
 // The lines of a block of records, as one text.
 #![tactic(auto)]
 
-ghost use Rattle.std.specs.Prelude.{ℕ, List, ◌+◌, ◌*◌, ◌≤◌, length};
+ghost use Rattle.std.specs.Prelude.{ℕ, List, [], ◌+◌, ◌*◌, ◌≤◌, length};
 ghost use Rattle.reactions.specs.declared.Outcome.{Outcome};
 ghost use Rattle.lines.specs.Lines.{outcome_line, fields_line};
 ghost use Rattle.lines.specs.Put.{PutLine};
 ghost use Rattle.blocks.specs.Blocks.{OneMore, Printed, Prints};
+ghost use Rattle.blocks.specs.Input.{spare_line, after_lines};
 
-use reactions::Outcome;
-use session::Session;
+use reactions::{Given, Outcome};
+use session::{Answer, Session};
 
 // What is printed of a record, and of spare bytes, which are no record, at the end of the input.
 pub trait Show {
     ghost line_of: { Outcome → List ℕ };
 
-    const SPARE: &'static [u8];
+    ghost spare: { List ℕ };
 
     // The line of a record goes into the text from `at` on; the place after it is returned. The text is lent, since memory is fixed and lines
     // follow one another in it.
     fn put_line(text: &mut [u8], at: usize, o: Outcome) -> usize
         ensures { PutLine text.old at (line_of o) text.new result };
+
+    // The same for spare bytes, which a session has met: they leave it as it was.
+    fn put_spare(text: &mut [u8], at: usize, s: Session) -> usize
+        ensures { PutLine text.old at spare text.new result };
 }
 
 // What a record gave; for spare bytes answer 14.
@@ -31,20 +36,33 @@ pub struct Fields;
 impl Show for Outcomes {
     ghost line_of = { outcome_line };
 
-    const SPARE: &'static [u8] = b"A 14 0 0\n";
+    ghost spare = { spare_line };
 
     fn put_line(text: &mut [u8], at: usize, o: Outcome) -> usize {
         lines::outcome_line(text, at, o)
+    }
+
+    #[tactic(auto, unfolding(lines::specs::Lines::given_line, crate::specs::Input::spare_line))]
+    fn put_spare(text: &mut [u8], at: usize, s: Session) -> usize {
+        let refused = Outcome {
+            given: Given::Refused(Answer::SpareBytes),
+            session: s,
+        };
+        lines::outcome_line(text, at, refused)
     }
 }
 
 impl Show for Fields {
     ghost line_of = { λ o. fields_line o.session.driver };
 
-    const SPARE: &'static [u8] = b"";
+    ghost spare = { [] };
 
     fn put_line(text: &mut [u8], at: usize, o: Outcome) -> usize {
         lines::fields_line(text, at, o.session.driver)
+    }
+
+    fn put_spare(_text: &mut [u8], at: usize, _s: Session) -> usize {
+        at
     }
 }
 
@@ -96,4 +114,15 @@ pub fn print<S: Show>(s: Session, bytes: &[u8], out: &mut [u8]) -> Printout
         };
     }
     print_records::<S>(s, bytes, out)
+}
+
+// What comes after the lines of an input whose last bytes these are, from `at` on.
+#[tactic(auto, using(crate::proofs::After::nothing_put, crate::proofs::After::spare_put))]
+pub fn put_after<S: Show>(s: Session, bytes: &[u8], text: &mut [u8], at: usize) -> usize
+    ensures { PutLine text.old at (after_lines S.spare bytes.now) text.new result }
+{
+    if bytes.len() % 8 == 0 {
+        return at;
+    }
+    S::put_spare(text, at, s)
 }
