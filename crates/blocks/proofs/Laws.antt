@@ -1,17 +1,14 @@
 -- Blocks join, and what is printed tells the history of the list run.
 use mathlib.Core.Path.{◌≡◌, refl, sym, ap, ◌∙◌}
-use mathlib.Core.Bool.{true, false, cond}
 use mathlib.Core.List.{List, [], ◌∷◌, ◌++◌, append_assoc, append-nil}
 use Prim.Native.Nat.{ℕ, ◌*◌, ◌/◌, ◌%◌, ◌<◌}
 use native.Mathlib.Omega.{arith}
-use borrow.Author.Tests.{eqb-true, eqb-false}
-use lib.Dec.{eqb}
-use lib.ListN.{length, take, drop, length-take, length-drop, length-append, take-append-drop}
+use borrow.Author.Tests.{eqb-true}
+use lib.ListN.{length, drop, length-take, length-drop, length-append, take-append-drop}
 use Rattle.session.specs.declared.Session.{Session}
 use Rattle.session.specs.Machine.{Outcome as Result, sent, answered, refused, broken, fresh_session}
-use Rattle.session.specs.Records.{Record, record_of, records_of, is_whole, step_def}
-use Rattle.session.specs.History.{Entry, Run, run_def, got_of, session_of, session_after, Genuine, in_order}
-use Rattle.session.specs.Claim3.{Demand3}
+use Rattle.session.specs.Records.{Record, record_of, records_of, step_def}
+use Rattle.session.specs.History.{Entry, run_def, got_of, session_of, session_after, Genuine, in_order}
 use Rattle.session.proofs.Demand3.{demand_3}
 use Rattle.reactions.specs.Outcome.{outcome_of}
 use Rattle.reactions.specs.declared.Outcome.{Outcome}
@@ -134,10 +131,10 @@ module _ (bytes : List ℕ) (w : length bytes % 8 ≡ 0) where
   fields_told = told_all (λ o. fields_line o.session.driver) ∙ told_fields history
 
 -- the whole part of a list has its records
-part_whole : (l : List ℕ) → length (whole_part l) % 8 ≡ 0
+pub part_whole : (l : List ℕ) → length (whole_part l) % 8 ≡ 0
 part_whole l = omega (arith, length-take (length l / 8 * 8) l)
 
-part_records : (l : List ℕ) → records_of (whole_part l) ≡ records_of l
+pub part_records : (l : List ℕ) → records_of (whole_part l) ≡ records_of l
 part_records l =
     let n = length l / 8 * 8 in
     let rest = drop n l in

@@ -6,5 +6,5 @@ use blocks::Fields;
 use std::io;
 
 fn main(rt: HostRuntime) -> io::Result<()> {
-    console::run::<Fields>(&rt)
+    console::run::<Fields, _, _>(&mut rt.reader(), &mut io::writer(&rt))
 }

@@ -6,5 +6,5 @@ use blocks::Outcomes;
 use std::io;
 
 fn main(rt: HostRuntime) -> io::Result<()> {
-    console::run::<Outcomes>(&rt)
+    console::run::<Outcomes, _, _>(&mut rt.reader(), &mut io::writer(&rt))
 }
