@@ -4,7 +4,6 @@ use Rattle.std.specs.Prelude.{◌≡◌, ℕ, ◌<◌, ◌≤◌, List, ◌++◌
 use Rattle.std.specs.Io.{StartsWith}
 use Rattle.std.specs.Io.KnownBytes.{Appends, Consumes, IsAtEnd}
 use Rattle.session.specs.declared.Session.{Session}
-use Rattle.session.specs.Machine.{fresh_session}
 use Rattle.reactions.specs.declared.Outcome.{Outcome}
 use Rattle.blocks.specs.Input.{text_from}
 
@@ -40,11 +39,11 @@ pub record PrintsBlock {E : Type 0} (line : Outcome → List ℕ) (spare : List 
   pub start : IfSome given (λ bytes. StartsWith (text_from line spare s bytes) written)
   pub after : IfOk r (λ o. After line spare s given written o left)
 
--- 01: "Program rolltrace reads records from standard input into a fresh session." What is written is the start of the text of the input, and where no
--- read and no write fails it is the whole of it, and the input is read to its end
-pub record PrintsInput {A E : Type 0} (line : Outcome → List ℕ) (spare : List ℕ) (given left was now : Option (List ℕ)) (r : Result A E) : Type 0 where
+-- 01: "Program rolltrace reads records from standard input into a fresh session." What is written is the start of the text of the input, and where
+-- nothing fails it is the whole of it, and the input is read to its end. `text` is what a program prints for an input
+pub record PrintsInput {A E : Type 0} (text : List ℕ → List ℕ) (given left was now : Option (List ℕ)) (r : Result A E) : Type 0 where
   pub written : List ℕ
   pub appended : Appends was now written
-  pub start : IfSome given (λ bytes. StartsWith (text_from line spare fresh_session bytes) written)
-  pub whole : OnOk r (IfSome given (λ bytes. written ≡ text_from line spare fresh_session bytes))
+  pub start : IfSome given (λ bytes. StartsWith (text bytes) written)
+  pub whole : OnOk r (IfSome given (λ bytes. written ≡ text bytes))
   pub end : OnOk r (IsAtEnd left)

@@ -3,9 +3,10 @@
 
 ghost use Rattle.std.specs.Prelude.{◌≡◌, ℕ, ◌+◌, ◌*◌, ◌%◌, ◌<◌, ◌≤◌, IfOk, OnErr, length, take, drop};
 ghost use Rattle.std.specs.Io.KnownBytes.{Keeps, Consumes, IsAtEnd};
+ghost use Rattle.session.specs.Machine.{fresh_session};
 ghost use Rattle.session.specs.Records.{records_of};
 ghost use Rattle.blocks.specs.Blocks.{lines_of, session_past};
-ghost use Rattle.blocks.specs.Input.{after_lines};
+ghost use Rattle.blocks.specs.Input.{after_lines, text_from};
 ghost use Rattle.console.specs.Streams.{Writes, Fills, PrintsBlock, PrintsInput};
 
 use blocks::Show;
@@ -59,14 +60,14 @@ fn too_many_turns() -> Error {
 fn put<W: Write>(writer: &mut W, text: &[u8]) -> io::Result<()>
     ensures { Writes text.now (W.contents writer.old) (W.contents writer.new) result }
 {
-    let mut count = 0;
+    let mut done = 0;
     for _ in 0..u64::MAX {
-        if count >= text.len() {
+        if done >= text.len() {
             return Ok(());
         }
-        match writer.write(&text[count..]) {
+        match writer.write(&text[done..]) {
             Ok(0) => return Err(Error::new(ErrorKind::WriteZero, "failed to write whole buffer")),
-            Ok(n) => count += n,
+            Ok(n) => done += n,
             Err(e) => {
                 if e.kind() != ErrorKind::Interrupted {
                     return Err(e);
@@ -145,7 +146,7 @@ fn print_blocks<S: Show, R: Read, W: Write>(
     requires eights { length block.old % 8 ≡ 0 }
     requires some { 0 < length block.old }
     requires room { 4 * length block.old ≤ length text.old }
-    ensures { PrintsInput S.line_of S.spare (R.remaining reader.old) (R.remaining reader.new) (W.contents writer.old) (W.contents writer.new) result }
+    ensures { PrintsInput (text_from S.line_of S.spare fresh_session) (R.remaining reader.old) (R.remaining reader.new) (W.contents writer.old) (W.contents writer.new) result }
 {
     let mut s = driver::fresh();
     for _ in 0..u64::MAX {
@@ -159,7 +160,7 @@ fn print_blocks<S: Show, R: Read, W: Write>(
 
 // A block is a quarter of the text, so that the lines of its records fit. Arrays of one size, since memory is fixed.
 pub fn run<S: Show, R: Read, W: Write>(reader: &mut R, writer: &mut W) -> io::Result<()>
-    ensures { PrintsInput S.line_of S.spare (R.remaining reader.old) (R.remaining reader.new) (W.contents writer.old) (W.contents writer.new) result }
+    ensures { PrintsInput (text_from S.line_of S.spare fresh_session) (R.remaining reader.old) (R.remaining reader.new) (W.contents writer.old) (W.contents writer.new) result }
 {
     let mut block = [0u8; 16384];
     let mut text = [0u8; 65536];
