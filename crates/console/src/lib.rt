@@ -1,8 +1,9 @@
 // Records from a reader, lines to a writer, block by block.
 #![tactic(auto)]
 
-ghost use Rattle.std.specs.Prelude.{◌≡◌, ℕ, ◌+◌, ◌*◌, ◌%◌, ◌<◌, ◌≤◌, IfOk, OnErr, length, take, drop};
+ghost use Rattle.std.specs.Prelude.{◌≡◌, ◌↔◌, ℕ, ◌+◌, ◌*◌, ◌%◌, ◌<◌, ◌≤◌, IfOk, IsTrue, OnErr, length, take, drop};
 ghost use Rattle.std.specs.Io.KnownBytes.{Keeps, Consumes, IsAtEnd};
+ghost use Rattle.std.specs.IoError.{error_kind};
 ghost use Rattle.session.specs.Machine.{fresh_session};
 ghost use Rattle.session.specs.Records.{records_of};
 ghost use Rattle.blocks.specs.Blocks.{lines_of, session_past};
@@ -42,8 +43,7 @@ fn fill<R: Read>(reader: &mut R, block: &mut [u8]) -> (usize, io::Result<()>)
             Ok(0) => return (count, Ok(())),
             Ok(n) => count += n,
             Err(e) => {
-                // Else a signal came before any byte did.
-                if e.kind() != ErrorKind::Interrupted {
+                if !is_signal(&e) {
                     return (count, Err(e));
                 }
             }
@@ -52,7 +52,16 @@ fn fill<R: Read>(reader: &mut R, block: &mut [u8]) -> (usize, io::Result<()>)
     (count, Err(too_many_turns()))
 }
 
-fn too_many_turns() -> Error {
+// A signal came before any byte was read or written.
+fn is_signal(e: &Error) -> bool
+    ensures { IsTrue result ↔ (error_kind e.now ≡ ErrorKind.Interrupted) }
+{
+    e.kind() == ErrorKind::Interrupted
+}
+
+fn too_many_turns() -> Error
+    ensures { error_kind result ≡ ErrorKind.TimedOut }
+{
     Error::new(ErrorKind::TimedOut, "gave up after 2^64 turns")
 }
 
@@ -69,7 +78,7 @@ fn put<W: Write>(writer: &mut W, text: &[u8]) -> io::Result<()>
             Ok(0) => return Err(Error::new(ErrorKind::WriteZero, "failed to write whole buffer")),
             Ok(n) => done += n,
             Err(e) => {
-                if e.kind() != ErrorKind::Interrupted {
+                if !is_signal(&e) {
                     return Err(e);
                 }
             }
@@ -129,7 +138,7 @@ fn print_block<S: Show, R: Read, W: Write>(
     let (count, ended) = fill(reader, block);
     let next = put_lines::<S, W>(writer, s, &block[..count], text)?;
     ended?;
-    if count >= block.len() {
+    if count == block.len() {
         return Ok(Some(next));
     }
     put_rest::<S, W>(writer, next, &block[..count], text)?;

@@ -7,12 +7,12 @@ use Rattle.console.proofs.print_block.Goals as goal
 pub returns-in_err-next-clause-prints : goal.returns-in_err-next-clause-prints
 returns-in_err-next-clause-prints g c =
     let lines = c.in_err-next.ensures.lines in
-    record { written = lines.part; appended = lines.appended; start = block_start _ _ _ _ _ _ _ c.fill-count.ensures.taken lines.start; after = search rules }
+    record { written = lines.part; appended = lines.appended; start = block_start _ _ _ _ _ _ _ c.fill-count.ensures.taken lines.start; after = search rules; again = search rules }
 
 pub returns-in_err-ended-clause-prints : goal.returns-in_err-ended-clause-prints
 returns-in_err-ended-clause-prints g c =
     let lines = c.in_ok-next.ensures.lines in
-    record { written = lines.part; appended = lines.appended; start = block_start _ _ _ _ _ _ _ c.fill-count.ensures.taken lines.start; after = search rules }
+    record { written = lines.part; appended = lines.appended; start = block_start _ _ _ _ _ _ _ c.fill-count.ensures.taken lines.start; after = search rules; again = search rules }
 
 pub returns-then-count-block-clause-prints : goal.returns-then-count-block-clause-prints
 returns-then-count-block-clause-prints g c =
@@ -24,6 +24,7 @@ returns-then-count-block-clause-prints g c =
       appended = lines.appended;
       start = block_start _ _ _ _ _ _ _ filled.taken lines.start;
       after = block_goes _ _ _ _ _ _ _ _ filled.taken (omega (arith, long, filled.size, filled.within, c.if-count-block.true, c.requires.eights)) lines.whole c.in_ok-next.ensures.session;
+      again = search rules;
     }
 
 pub returns-in_err-put_rest-clause-prints : goal.returns-in_err-put_rest-clause-prints
@@ -35,6 +36,7 @@ returns-in_err-put_rest-clause-prints g c =
       appended = Appends-trans _ _ _ _ _ lines.appended rest.appended;
       start = last_start _ _ _ _ _ _ _ _ c.fill-count.ensures.taken (search rules) lines.whole rest.start;
       after = search rules;
+      again = search rules;
     }
 
 pub returns-clause-prints : goal.returns-clause-prints
@@ -46,4 +48,5 @@ returns-clause-prints g c =
       appended = Appends-trans _ _ _ _ _ lines.appended rest.appended;
       start = last_start _ _ _ _ _ _ _ _ c.fill-count.ensures.taken (search rules) lines.whole rest.start;
       after = (last_whole _ _ _ _ _ _ _ _ c.fill-count.ensures.taken (search rules) lines.whole rest.whole, search rules);
+      again = search rules;
     }

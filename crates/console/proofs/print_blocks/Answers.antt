@@ -14,6 +14,7 @@ returns-in_err-next g c =
       start = start_on _ _ _ _ _ _ _ _ goes p.start;
       whole = search rules;
       end = search rules;
+      again = search rules;
     }
 
 pub returns-in-None : goal.returns-in-None
@@ -27,6 +28,7 @@ returns-in-None g c =
       start = start_on _ _ _ _ _ _ _ _ goes p.start;
       whole = whole_on _ _ _ _ _ _ _ _ goes after.0;
       end = after.1;
+      again = search rules;
     }
 
 pub loop-preserved : goal.loop-preserved
