@@ -1,15 +1,15 @@
 // The lines of a block of records, as one text.
 #![tactic(auto)]
 
-ghost use Rattle.std.specs.Prelude.{ℕ, List, [], ◌+◌, ◌*◌, ◌≤◌, length};
+ghost use Rattle.std.specs.Prelude.{◌≡◌, ℕ, List, [], ◌+◌, ◌*◌, ◌≤◌, length};
 ghost use Rattle.reactions.specs.declared.Outcome.{Outcome};
 ghost use Rattle.lines.specs.Lines.{outcome_line, fields_line};
 ghost use Rattle.lines.specs.Put.{PutLine};
 ghost use Rattle.blocks.specs.Blocks.{OneMore, Printed, Prints};
 ghost use Rattle.blocks.specs.Input.{spare_line, after_lines};
 
-use reactions::{Given, Outcome};
-use session::{Answer, Session};
+use reactions::Outcome;
+use session::Session;
 
 // What is printed of a record, and of spare bytes, which are no record, at the end of the input.
 pub trait Show {
@@ -22,9 +22,9 @@ pub trait Show {
     fn put_line(text: &mut [u8], at: usize, o: Outcome) -> usize
         ensures { PutLine text.old at (line_of o) text.new result };
 
-    // The same for spare bytes, which a session has met: they leave it as it was.
-    fn put_spare(text: &mut [u8], at: usize, s: Session) -> usize
-        ensures { PutLine text.old at spare text.new result };
+    // What is printed for spare bytes.
+    fn spare_text() -> &'static [u8]
+        ensures { result.now ≡ spare };
 }
 
 // What a record gave; for spare bytes answer 14.
@@ -42,13 +42,9 @@ impl Show for Outcomes {
         lines::outcome_line(text, at, o)
     }
 
-    #[tactic(auto, unfolding(lines::specs::Lines::given_line, crate::specs::Input::spare_line))]
-    fn put_spare(text: &mut [u8], at: usize, s: Session) -> usize {
-        let refused = Outcome {
-            given: Given::Refused(Answer::SpareBytes),
-            session: s,
-        };
-        lines::outcome_line(text, at, refused)
+    #[tactic(auto, using(crate::proofs::After::spare_is))]
+    fn spare_text() -> &'static [u8] {
+        b"A 14 0 0\n"
     }
 }
 
@@ -61,8 +57,8 @@ impl Show for Fields {
         lines::fields_line(text, at, o.session.driver)
     }
 
-    fn put_spare(_text: &mut [u8], at: usize, _s: Session) -> usize {
-        at
+    fn spare_text() -> &'static [u8] {
+        b""
     }
 }
 
@@ -116,13 +112,13 @@ pub fn print<S: Show>(s: Session, bytes: &[u8], out: &mut [u8]) -> Printout
     print_records::<S>(s, bytes, out)
 }
 
-// What comes after the lines of an input whose last bytes these are, from `at` on.
-#[tactic(auto, using(crate::proofs::After::nothing_put, crate::proofs::After::spare_put))]
-pub fn put_after<S: Show>(s: Session, bytes: &[u8], text: &mut [u8], at: usize) -> usize
-    ensures { PutLine text.old at (after_lines S.spare bytes.now) text.new result }
+// What comes after the lines of an input whose last bytes these are.
+#[tactic(auto, using(crate::proofs::After::whole_after, crate::proofs::After::spare_after))]
+pub fn after_lines<S: Show>(bytes: &[u8]) -> &'static [u8]
+    ensures { result.now ≡ after_lines S.spare bytes.now }
 {
     if bytes.len() % 8 == 0 {
-        return at;
+        return b"";
     }
-    S::put_spare(text, at, s)
+    S::spare_text()
 }

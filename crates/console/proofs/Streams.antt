@@ -1,6 +1,6 @@
 -- What is written part by part, and what is left to write.
-use Rattle.std.proofs.Common.{◌≡◌, ℕ, ◌+◌, ◌-◌, ◌*◌, ◌/◌, ◌%◌, ◌≤◌, List, [], ◌∷◌, ◌++◌, Option, None, Some, IfSome, Result, refl, sym, ap, subst, ◌∙◌, arith, append_assoc, length, take, drop, take_at, length-drop, take-append-drop}
-use lib.Seq.{sets-eq, take-add}
+use Rattle.std.proofs.Common.{◌≡◌, ℕ, ◌+◌, ◌-◌, ◌*◌, ◌/◌, ◌%◌, ◌≤◌, List, [], ◌∷◌, ◌++◌, Option, None, Some, IfSome, Result, refl, sym, ap, subst, ◌∙◌, arith, append_assoc, length, take, drop, length-drop, take-append-drop}
+use lib.Seq.{take-add}
 use Rattle.std.specs.declared.io.Error.{Error}
 use Rattle.std.specs.Io.{StartsWith}
 use Rattle.std.specs.Io.KnownBytes.{Appends, Consumes, Keeps, IsAtEnd}
@@ -10,7 +10,6 @@ use Rattle.records.proofs.Turns.{tail}
 use Rattle.session.specs.declared.Session.{Session}
 use Rattle.session.specs.Records.{records_of}
 use Rattle.reactions.specs.declared.Outcome.{Outcome}
-use Rattle.lines.specs.Put.{PutLine}
 use Rattle.blocks.specs.Blocks.{lines_of, session_past}
 use Rattle.blocks.specs.Input.{after_lines, text_from}
 use Rattle.blocks.proofs.Laws.{blocks_join, part_whole, part_records}
@@ -40,13 +39,6 @@ fill_more a b c old new k n m e front p q =
 
 pub fill_kept : (a b c : Option (List ℕ)) (old new : List ℕ) (k m : ℕ) → m ≡ k → take k new ≡ take k old → Consumes a b (take k old) → Keeps b c → Consumes a c (take m new)
 fill_kept a b c old new k m e front p q = subst (Consumes a c) (sym front ∙ ap (λ j. take j new) (sym e)) (Consumes-kept a b c _ p q)
-
--- a line at the start of a text is what the text begins with
-pub at_start : (line was text : List ℕ) (next : ℕ) → 32 ≤ length was → PutLine was 0 line text next → take next text ≡ line
-at_start line was text next room p =
-    let (put, short) = p.with_room room in
-    let n : next ≡ length line = omega (arith, put.ends) in
-    ap (take next) (put.puts ∙ sets-eq line was 0 (omega (arith, n, short, room))) ∙ take_at line (drop (0 + length line) was) next (sym n)
 
 starts_after : (w z v : List ℕ) → StartsWith z v → StartsWith (w ++ z) (w ++ v)
 starts_after [] z v h = h

@@ -7,7 +7,7 @@ ghost use Rattle.std.specs.IoError.{error_kind};
 ghost use Rattle.session.specs.Machine.{fresh_session};
 ghost use Rattle.session.specs.Records.{records_of};
 ghost use Rattle.blocks.specs.Blocks.{lines_of, session_past};
-ghost use Rattle.blocks.specs.Input.{after_lines, text_from};
+ghost use Rattle.blocks.specs.Input.{text_from};
 ghost use Rattle.console.specs.Streams.{Writes, Fills, PrintsBlock, PrintsInput};
 
 use blocks::Show;
@@ -104,21 +104,6 @@ fn put_lines<S: Show, W: Write>(
     Ok(p.session)
 }
 
-// What comes after the lines of the last block.
-fn put_rest<S: Show, W: Write>(
-    writer: &mut W,
-    s: Session,
-    bytes: &[u8],
-    text: &mut [u8],
-) -> io::Result<()>
-    requires { 32 ≤ length text.old }
-    ensures size { length text.new ≡ length text.old }
-    ensures rest { Writes (after_lines S.spare bytes.now) (W.contents writer.old) (W.contents writer.new) result }
-{
-    let count = blocks::put_after::<S>(s, bytes, text, 0);
-    put(writer, &text[..count])
-}
-
 // The session after a block, if there may be another block: a short one is the last. Where reading fails, the records that came before
 // are printed first.
 fn print_block<S: Show, R: Read, W: Write>(
@@ -141,7 +126,7 @@ fn print_block<S: Show, R: Read, W: Write>(
     if count == block.len() {
         return Ok(Some(next));
     }
-    put_rest::<S, W>(writer, next, &block[..count], text)?;
+    put(writer, blocks::after_lines::<S>(&block[..count]))?;
     Ok(None)
 }
 

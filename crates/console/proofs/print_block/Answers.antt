@@ -1,7 +1,7 @@
 -- `console::print_block` meets its contract: the lines of the block, and at the end of the input what comes after them.
 use Rattle.std.proofs.Common.{rules, ◌++◌, arith, length-take-le}
 use Rattle.std.proofs.KnownBytes.{Appends-trans}
-use Rattle.console.proofs.Streams.{block_start, block_goes, last_start, last_whole}
+use Rattle.console.proofs.Streams.{writes_same, block_start, block_goes, last_start, last_whole}
 use Rattle.console.proofs.print_block.Goals as goal
 
 pub returns-in_err-next-clause-prints : goal.returns-in_err-next-clause-prints
@@ -27,10 +27,10 @@ returns-then-count-block-clause-prints g c =
       again = search rules;
     }
 
-pub returns-in_err-put_rest-clause-prints : goal.returns-in_err-put_rest-clause-prints
-returns-in_err-put_rest-clause-prints g c =
+pub returns-in_err-put-clause-prints : goal.returns-in_err-put-clause-prints
+returns-in_err-put-clause-prints g c =
     let lines = c.in_ok-next.ensures.lines in
-    let rest = c.in_err-put_rest.ensures.rest in
+    let rest = writes_same _ _ _ _ _ c.after_lines.ensures c.in_err-put.ensures in
     record {
       written = lines.part ++ rest.part;
       appended = Appends-trans _ _ _ _ _ lines.appended rest.appended;
@@ -42,7 +42,7 @@ returns-in_err-put_rest-clause-prints g c =
 pub returns-clause-prints : goal.returns-clause-prints
 returns-clause-prints g c =
     let lines = c.in_ok-next.ensures.lines in
-    let rest = c.in_ok-put_rest.ensures.rest in
+    let rest = writes_same _ _ _ _ _ c.after_lines.ensures c.in_ok-put.ensures in
     record {
       written = lines.part ++ rest.part;
       appended = Appends-trans _ _ _ _ _ lines.appended rest.appended;
