@@ -14,7 +14,7 @@ use Rattle.blocks.specs.Input.{text_from}
 abbrev pub TriedAgain : {A : Type 0} → Result A Error → Type 0
 TriedAgain r = IfErr r (λ e. error_kind e ≢ ErrorKind.Interrupted)
 
--- what a writer got is the start of a text, and the whole of it where nothing failed
+-- what a writer got is the start of a text, and at `Ok` the whole of it
 pub record Writes {A : Type 0} (text : List ℕ) (was now : Option (List ℕ)) (r : Result A Error) : Type 0 where
   pub part : List ℕ
   pub appended : Appends was now part
@@ -49,8 +49,9 @@ pub record PrintsBlock (line : Outcome → List ℕ) (spare : List ℕ) (s : Ses
   pub after : IfOk r (λ o. After line spare s given written o left)
   pub again : TriedAgain r
 
--- 01: "Program rolltrace reads records from standard input into a fresh session." What is written is the start of the text of the input, and where
--- nothing fails it is the whole of it, and the input is read to its end. `text` is what a program prints for an input
+-- 01: "Program rolltrace reads records from standard input into a fresh session." What is written is always the start of the text of the input, and
+-- at `Ok` the whole of it, and the input is read to its end. `text` is what a program prints for an input. That only a read or a write that failed
+-- leads to `Err` is not said: std's `Read` and `Write` keep no account of failures
 pub record PrintsInput {A : Type 0} (text : List ℕ → List ℕ) (given left was now : Option (List ℕ)) (r : Result A Error) : Type 0 where
   pub written : List ℕ
   pub appended : Appends was now written
