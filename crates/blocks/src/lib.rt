@@ -1,11 +1,12 @@
 // The lines of a block of records, as one text.
 #![tactic(auto)]
 
-ghost use Rattle.std.specs.Prelude.{ℕ, List, ◌+◌, ◌*◌, ◌≤◌, length};
+ghost use Rattle.std.specs.Prelude.{◌≡◌, ℕ, List, [], ◌+◌, ◌*◌, ◌≤◌, length};
 ghost use Rattle.reactions.specs.declared.Outcome.{Outcome};
 ghost use Rattle.lines.specs.Lines.{outcome_line, fields_line};
 ghost use Rattle.lines.specs.Put.{PutLine};
 ghost use Rattle.blocks.specs.Blocks.{OneMore, Printed, Prints};
+ghost use Rattle.blocks.specs.Input.{spare_line, after_lines};
 
 use reactions::Outcome;
 use session::Session;
@@ -14,12 +15,16 @@ use session::Session;
 pub trait Show {
     ghost line_of: { Outcome → List ℕ };
 
-    const SPARE: &'static [u8];
+    ghost spare: { List ℕ };
 
     // The line of a record goes into the text from `at` on; the place after it is returned. The text is lent, since memory is fixed and lines
     // follow one another in it.
     fn put_line(text: &mut [u8], at: usize, o: Outcome) -> usize
         ensures { PutLine text.old at (line_of o) text.new result };
+
+    // What is printed for spare bytes.
+    fn spare_text() -> &'static [u8]
+        ensures { result.now ≡ spare };
 }
 
 // What a record gave; for spare bytes answer 14.
@@ -31,20 +36,29 @@ pub struct Fields;
 impl Show for Outcomes {
     ghost line_of = { outcome_line };
 
-    const SPARE: &'static [u8] = b"A 14 0 0\n";
+    ghost spare = { spare_line };
 
     fn put_line(text: &mut [u8], at: usize, o: Outcome) -> usize {
         lines::outcome_line(text, at, o)
+    }
+
+    #[tactic(auto, using(crate::proofs::After::spare_is))]
+    fn spare_text() -> &'static [u8] {
+        b"A 14 0 0\n"
     }
 }
 
 impl Show for Fields {
     ghost line_of = { λ o. fields_line o.session.driver };
 
-    const SPARE: &'static [u8] = b"";
+    ghost spare = { [] };
 
     fn put_line(text: &mut [u8], at: usize, o: Outcome) -> usize {
         lines::fields_line(text, at, o.session.driver)
+    }
+
+    fn spare_text() -> &'static [u8] {
+        b""
     }
 }
 
@@ -96,4 +110,15 @@ pub fn print<S: Show>(s: Session, bytes: &[u8], out: &mut [u8]) -> Printout
         };
     }
     print_records::<S>(s, bytes, out)
+}
+
+// What comes after the lines of an input whose last bytes these are.
+#[tactic(auto, using(crate::proofs::After::whole_after, crate::proofs::After::spare_after))]
+pub fn after_lines<S: Show>(bytes: &[u8]) -> &'static [u8]
+    ensures { result.now ≡ after_lines S.spare bytes.now }
+{
+    if bytes.len() % 8 == 0 {
+        return b"";
+    }
+    S::spare_text()
 }

@@ -1,75 +1,162 @@
-// Standard input to standard output: records in, lines out, block by block.
+// Records from a reader, lines to a writer, block by block.
 #![tactic(auto)]
+
+ghost use Rattle.std.specs.Prelude.{◌≡◌, ◌↔◌, ℕ, ◌+◌, ◌*◌, ◌%◌, ◌<◌, ◌≤◌, IfOk, IsTrue, OnErr, length, take, drop};
+ghost use Rattle.std.specs.Io.KnownBytes.{Keeps, Consumes, IsAtEnd};
+ghost use Rattle.std.specs.IoError.{error_kind};
+ghost use Rattle.session.specs.Machine.{fresh_session};
+ghost use Rattle.session.specs.Records.{records_of};
+ghost use Rattle.blocks.specs.Blocks.{lines_of, session_past};
+ghost use Rattle.blocks.specs.Input.{text_from};
+ghost use Rattle.console.specs.Streams.{Writes, Fills, PrintsBlock, PrintsInput};
 
 use blocks::Show;
 use session::Session;
 use std::io;
-use std::io::{ErrorKind, Read, Write};
+use std::io::{Error, ErrorKind, Read, Write};
 
-// The part of a block that was filled, and how that ended. A pipe gives its bytes in pieces of any length: only the end of the input, or
+// One read into the block from `at` on.
+fn read_at<R: Read>(reader: &mut R, block: &mut [u8], at: usize) -> io::Result<usize>
+    requires { at < length block.old }
+    ensures size { length block.new ≡ length block.old }
+    ensures front { take at block.new ≡ take at block.old }
+    ensures fits { IfOk result (λ n. at + n ≤ length block.new) }
+    ensures ok { IfOk result (λ n. Consumes (R.remaining reader.old) (R.remaining reader.new) (take n (drop at block.new))) }
+    ensures end { IfOk result (λ n. n ≡ 0 → IsAtEnd (R.remaining reader.new)) }
+    ensures err { OnErr result (Keeps (R.remaining reader.old) (R.remaining reader.new)) }
+{
+    reader.read(&mut block[at..])
+}
+
+// How many bytes of a block were filled, and how that ended. A pipe gives its bytes in pieces of any length: only the end of the input, or
 // a failure, leaves a block short. Nothing says that a signal comes only so often, so the loop counts its turns; the count of bytes is where
 // the next ones go.
-fn fill<'a>(reader: &mut impl Read, block: &'a mut [u8]) -> (&'a [u8], io::Result<()>) {
+fn fill<R: Read>(reader: &mut R, block: &mut [u8]) -> (usize, io::Result<()>)
+    ensures { Fills (R.remaining reader.old) (R.remaining reader.new) block.old block.new result.0 result.1 }
+{
     let mut count = 0;
-    let mut ended = Ok(());
     for _ in 0..u64::MAX {
-        if count == block.len() {
-            break;
+        if count >= block.len() {
+            return (count, Ok(()));
         }
-        match reader.read(&mut block[count..]) {
-            Ok(0) => break,
+        match read_at(reader, block, count) {
+            Ok(0) => return (count, Ok(())),
             Ok(n) => count += n,
-            // A signal came before any byte did.
-            Err(e) if e.kind() == ErrorKind::Interrupted => {}
             Err(e) => {
-                ended = Err(e);
-                break;
+                if !is_signal(&e) {
+                    return (count, Err(e));
+                }
             }
         }
     }
-    (&block[..count], ended)
+    (count, Err(too_many_turns()))
+}
+
+// A signal came before any byte was read or written.
+fn is_signal(e: &Error) -> bool
+    ensures { IsTrue result ↔ (error_kind e.now ≡ ErrorKind.Interrupted) }
+{
+    e.kind() == ErrorKind::Interrupted
+}
+
+fn too_many_turns() -> Error
+    ensures { error_kind result ≡ ErrorKind.TimedOut }
+{
+    Error::new(ErrorKind::TimedOut, "gave up after 2^64 turns")
+}
+
+// std's `write_all` does not say what was written where it fails.
+fn put<W: Write>(writer: &mut W, text: &[u8]) -> io::Result<()>
+    ensures { Writes text.now (W.contents writer.old) (W.contents writer.new) result }
+{
+    let mut done = 0;
+    for _ in 0..u64::MAX {
+        if done >= text.len() {
+            return Ok(());
+        }
+        match writer.write(&text[done..]) {
+            Ok(0) => return Err(Error::new(ErrorKind::WriteZero, "failed to write whole buffer")),
+            Ok(n) => done += n,
+            Err(e) => {
+                if !is_signal(&e) {
+                    return Err(e);
+                }
+            }
+        }
+    }
+    Err(too_many_turns())
+}
+
+// The lines of a block's whole records, and the session after them.
+fn put_lines<S: Show, W: Write>(
+    writer: &mut W,
+    s: Session,
+    bytes: &[u8],
+    text: &mut [u8],
+) -> io::Result<Session>
+    requires { 4 * length bytes.now ≤ length text.old }
+    ensures size { length text.new ≡ length text.old }
+    ensures lines { Writes (lines_of S.line_of s (records_of bytes.now)) (W.contents writer.old) (W.contents writer.new) result }
+    ensures session { IfOk result (λ t. t ≡ session_past s (records_of bytes.now)) }
+{
+    let p = blocks::print::<S>(s, bytes, text);
+    put(writer, &text[..p.count])?;
+    Ok(p.session)
 }
 
 // The session after a block, if there may be another block: a short one is the last. Where reading fails, the records that came before
 // are printed first.
-fn print_block<S: Show>(
-    reader: &mut impl Read,
-    writer: &mut impl Write,
+fn print_block<S: Show, R: Read, W: Write>(
+    reader: &mut R,
+    writer: &mut W,
     s: Session,
     block: &mut [u8],
     text: &mut [u8],
-) -> io::Result<Option<Session>> {
-    let size = block.len();
-    let (bytes, ended) = fill(reader, block);
-    let p = blocks::print::<S>(s, bytes, text);
-    writer.write_all(&text[..p.count])?;
+) -> io::Result<Option<Session>>
+    requires eights { length block.old % 8 ≡ 0 }
+    requires some { 0 < length block.old }
+    requires room { 4 * length block.old ≤ length text.old }
+    ensures block { length block.new ≡ length block.old }
+    ensures text { length text.new ≡ length text.old }
+    ensures prints { PrintsBlock S.line_of S.spare s (R.remaining reader.old) (R.remaining reader.new) (W.contents writer.old) (W.contents writer.new) result }
+{
+    let (count, ended) = fill(reader, block);
+    let next = put_lines::<S, W>(writer, s, &block[..count], text)?;
     ended?;
-    if bytes.len() % 8 != 0 {
-        writer.write_all(S::SPARE)?;
+    if count == block.len() {
+        return Ok(Some(next));
     }
-    Ok((bytes.len() == size).then_some(p.session))
+    put(writer, blocks::after_lines::<S>(&block[..count]))?;
+    Ok(None)
 }
 
 // Nothing says that the input ends, so the loop counts its turns.
-fn print_blocks<S: Show>(
-    reader: &mut impl Read,
-    writer: &mut impl Write,
+fn print_blocks<S: Show, R: Read, W: Write>(
+    reader: &mut R,
+    writer: &mut W,
     block: &mut [u8],
     text: &mut [u8],
-) -> io::Result<()> {
+) -> io::Result<()>
+    requires eights { length block.old % 8 ≡ 0 }
+    requires some { 0 < length block.old }
+    requires room { 4 * length block.old ≤ length text.old }
+    ensures { PrintsInput (text_from S.line_of S.spare fresh_session) (R.remaining reader.old) (R.remaining reader.new) (W.contents writer.old) (W.contents writer.new) result }
+{
     let mut s = driver::fresh();
     for _ in 0..u64::MAX {
-        match print_block::<S>(reader, writer, s, block, text)? {
+        match print_block::<S, R, W>(reader, writer, s, block, text)? {
             Some(next) => s = next,
-            None => break,
+            None => return Ok(()),
         }
     }
-    Ok(())
+    Err(too_many_turns())
 }
 
 // A block is a quarter of the text, so that the lines of its records fit. Arrays of one size, since memory is fixed.
-pub fn run<S: Show>(rt: &(impl Input + Print)) -> io::Result<()> {
+pub fn run<S: Show, R: Read, W: Write>(reader: &mut R, writer: &mut W) -> io::Result<()>
+    ensures { PrintsInput (text_from S.line_of S.spare fresh_session) (R.remaining reader.old) (R.remaining reader.new) (W.contents writer.old) (W.contents writer.new) result }
+{
     let mut block = [0u8; 16384];
     let mut text = [0u8; 65536];
-    print_blocks::<S>(&mut rt.reader(), &mut io::writer(rt), &mut block, &mut text)
+    print_blocks::<S, R, W>(reader, writer, &mut block, &mut text)
 }

@@ -2,9 +2,21 @@
 // A program of its own, since each has a name of its own.
 #![tactic(auto)]
 
+ghost use Rattle.blocks.specs.Input.{rollfields_text};
+ghost use Rattle.console.specs.Streams.{PrintsInput};
+
 use blocks::Fields;
 use std::io;
+use std::io::{Read, Write};
 
+#[tactic(auto, unfolding(blocks::specs::Input::rollfields_text))]
+fn print<R: Read, W: Write>(reader: &mut R, writer: &mut W) -> io::Result<()>
+    ensures { PrintsInput rollfields_text (R.remaining reader.old) (R.remaining reader.new) (W.contents writer.old) (W.contents writer.new) result }
+{
+    console::run::<Fields, R, W>(reader, writer)
+}
+
+// No contract says what standard input gives or what standard output takes.
 fn main(rt: HostRuntime) -> io::Result<()> {
-    console::run::<Fields>(&rt)
+    print(&mut rt.reader(), &mut io::writer(&rt))
 }

@@ -1,0 +1,61 @@
+-- What is written for what is read. The bytes that a reader has left and those that a writer holds are known as far as their types tell them
+-- (`remaining` and `contents` of std's `Read` and `Write`); where they are not, nothing is said of them.
+use Rattle.std.specs.Prelude.{◌≡◌, ◌≢◌, ℕ, ◌<◌, ◌≤◌, List, ◌++◌, Option, Some, None, Result, IfSome, IfOk, IfErr, OnOk, length, take, ⊤}
+use Rattle.std.specs.declared.io.Error.{Error}
+use Rattle.std.specs.declared.io.ErrorKind.{ErrorKind}
+use Rattle.std.specs.Io.{StartsWith}
+use Rattle.std.specs.Io.KnownBytes.{Appends, Consumes, IsAtEnd}
+use Rattle.std.specs.IoError.{error_kind}
+use Rattle.session.specs.declared.Session.{Session}
+use Rattle.reactions.specs.declared.Outcome.{Outcome}
+use Rattle.blocks.specs.Input.{text_from}
+
+-- a signal that came before any byte did is no failure
+abbrev pub TriedAgain : {A : Type 0} → Result A Error → Type 0
+TriedAgain r = IfErr r (λ e. error_kind e ≢ ErrorKind.Interrupted)
+
+-- what a writer got is the start of a text, and at `Ok` the whole of it
+pub record Writes {A : Type 0} (text : List ℕ) (was now : Option (List ℕ)) (r : Result A Error) : Type 0 where
+  pub part : List ℕ
+  pub appended : Appends was now part
+  pub start : StartsWith text part
+  pub whole : OnOk r (part ≡ text)
+  pub again : TriedAgain r
+
+-- a block is filled from its start on, and left short only at the end of the input or where reading fails
+pub record Fills (given left : Option (List ℕ)) (was block : List ℕ) (count : ℕ) (ended : Result ⊤ Error) : Type 0 where
+  pub size : length block ≡ length was
+  pub within : count ≤ length block
+  pub taken : Consumes given left (take count block)
+  pub at_end : OnOk ended (count < length block → IsAtEnd left)
+  pub again : TriedAgain ended
+
+-- the text of the bytes that were left is `part`, and then the text of those that are left now, for the session t
+abbrev pub GoesOn : (Outcome → List ℕ) → List ℕ → Session → Option (List ℕ) → List ℕ → Session → Option (List ℕ) → Type 0
+GoesOn line spare s None part t left = ⊤
+GoesOn line spare s (Some bytes) part t None = ⊥
+GoesOn line spare s (Some bytes) part t (Some rest) = text_from line spare s bytes ≡ part ++ text_from line spare t rest
+
+-- after a block: there is a session where another block is to come, and none where the input has ended
+abbrev pub After : (Outcome → List ℕ) → List ℕ → Session → Option (List ℕ) → List ℕ → Option Session → Option (List ℕ) → Type 0
+After line spare s given part (Some t) left = GoesOn line spare s given part t left
+After line spare s given part None left = IfSome given (λ bytes. part ≡ text_from line spare s bytes) × IsAtEnd left
+
+pub record PrintsBlock (line : Outcome → List ℕ) (spare : List ℕ) (s : Session) (given left was now : Option (List ℕ)) (r : Result (Option Session) Error)
+    : Type 0 where
+  pub written : List ℕ
+  pub appended : Appends was now written
+  pub start : IfSome given (λ bytes. StartsWith (text_from line spare s bytes) written)
+  pub after : IfOk r (λ o. After line spare s given written o left)
+  pub again : TriedAgain r
+
+-- 01: "Program rolltrace reads records from standard input into a fresh session." What is written is always the start of the text of the input, and
+-- at `Ok` the whole of it, and the input is read to its end. `text` is what a program prints for an input. That only a read or a write that failed
+-- leads to `Err` is not said: std's `Read` and `Write` keep no account of failures
+pub record PrintsInput {A : Type 0} (text : List ℕ → List ℕ) (given left was now : Option (List ℕ)) (r : Result A Error) : Type 0 where
+  pub written : List ℕ
+  pub appended : Appends was now written
+  pub start : IfSome given (λ bytes. StartsWith (text bytes) written)
+  pub whole : OnOk r (IfSome given (λ bytes. written ≡ text bytes))
+  pub end : OnOk r (IsAtEnd left)
+  pub again : TriedAgain r
