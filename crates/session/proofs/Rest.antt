@@ -6,7 +6,7 @@ use Prim.Native.Nat.{ℕ, zero, suc}
 use native.Mathlib.Omega.{arith}
 use borrow.Author.Tests.{eqb-true, ne_eqb}
 use lib.Dec.{eqb, ltb}
-use lib.ListN.{get_or, drop}
+use lib.ListN.{drop}
 use lib.Seq.{sets}
 use Rattle.session.specs.Bus.{Reply, bad, good, wait_limit, idle_on}
 use Rattle.session.specs.Instructions.{bytes_from, Verdict, onward, leap, stop, test, Op, write, read, wait, range, Final, success, failure, send_of, kept_bytes, kept_failure, kept_budget}
@@ -62,17 +62,17 @@ reacts range p s (bad e) = arrives p (suc s.step) (kept_of s range (bad e))
 reacts range p s (good bs) = arrives p (suc s.step) (kept_of s range (good bs))
 
 -- the row of a step: slot and count, both 0 where nothing is kept
-abbrev row_at : ℕ → List (ℕ × ℕ × ℕ) → ℕ × ℕ
-row_at k [] = (0, 0)
-row_at k (r ∷ rs) = cond (eqb r.0 k) (r.1, r.2) (row_at k rs)
+abbrev row_at : ℕ → ℕ → List (ℕ × ℕ × ℕ × ℕ) → ℕ × ℕ
+row_at code k [] = (0, 0)
+row_at code k (r ∷ rs) = cond (eqb r.0 code && eqb r.1 k) (r.2, r.3) (row_at code k rs)
 
-row_is : (k : ℕ) (rs : List (ℕ × ℕ × ℕ)) (l bs : List ℕ) → kept_at k rs l bs ≡ sets l (row_at k rs).0 (bytes_from 0 (row_at k rs).1 bs)
-row_is k [] l bs = refl
-row_is k (r ∷ rs) l bs = go (eqb r.0 k) (row_is k rs l bs)
+row_is : (code k : ℕ) (rs : List (ℕ × ℕ × ℕ × ℕ)) (l bs : List ℕ) → kept_at code k rs l bs ≡ sets l (row_at code k rs).0 (bytes_from 0 (row_at code k rs).1 bs)
+row_is code k [] l bs = refl
+row_is code k (r ∷ rs) l bs = go (eqb r.0 code && eqb r.1 k) (row_is code k rs l bs)
   where
-    go : (b : Bool) → kept_at k rs l bs ≡ sets l (row_at k rs).0 (bytes_from 0 (row_at k rs).1 bs)
-        → cond b (sets l r.1 (bytes_from 0 r.2 bs)) (kept_at k rs l bs)
-        ≡ sets l (cond b (r.1, r.2) (row_at k rs)).0 (bytes_from 0 (cond b (r.1, r.2) (row_at k rs)).1 bs)
+    go : (b : Bool) → kept_at code k rs l bs ≡ sets l (row_at code k rs).0 (bytes_from 0 (row_at code k rs).1 bs)
+        → cond b (sets l r.2 (bytes_from 0 r.3 bs)) (kept_at code k rs l bs)
+        ≡ sets l (cond b (r.2, r.3) (row_at code k rs)).0 (bytes_from 0 (cond b (r.2, r.3) (row_at code k rs)).1 bs)
     go true h = refl
     go false h = h
 
@@ -96,7 +96,7 @@ fills_budget range = false
 
 abbrev kept_ok : ℕ → StepTest
 kept_ok code k i is =
-    let row = row_at k (get_or kept_rows code []) in
+    let row = row_at code k kept_rows in
     eqb row.0 (slot_of (op_of i))
     && (eqb row.1 (count_of (op_of i))
     && (same_bool (reads_range_at code k) (is_range (op_of i))
@@ -136,11 +136,11 @@ pub keeps_the_rest : (s : Session) (f : ℕ) (bs : List ℕ) → KeepsTheRest s 
 keeps_the_rest s f bs u =
     instruction_there s (sound_of s u).1 (λ i is at.
     let h = walk_at (kept_ok s.code) (program_of s.code).steps s.step i is (all_ok s.code) at in
-    let row = row_at s.step (get_or kept_rows s.code []) in
+    let row = row_at s.code s.step kept_rows in
     let t₁ = both (eqb row.0 (slot_of (op_of i))) _ h in
     let t₂ = both (eqb row.1 (count_of (op_of i))) _ t₁.1 in
     let t₃ = both (same_bool (reads_range_at s.code s.step) (is_range (op_of i))) _ t₂.1 in
-    let carried : kept_bytes (op_of i) (to_reply f bs) s.carried ≡ cond (eqb f 0) (kept_at s.step (get_or kept_rows s.code []) s.carried bs) s.carried
+    let carried : kept_bytes (op_of i) (to_reply f bs) s.carried ≡ cond (eqb f 0) (kept_at s.code s.step kept_rows s.carried bs) s.carried
     = by_reply (op_of i) f (eqb-true row.0 (slot_of (op_of i)) t₁.0) (eqb-true row.1 (count_of (op_of i)) t₂.0) in
     let failed : kept_failure (op_of i) (to_reply f bs) s.failed ≡ cond (reads_range_at s.code s.step) f s.failed
     = failure_kept (op_of i) f bs s.failed ∙ ap (λ b. cond b f s.failed) (sym (same_bool_lem _ _ t₃.0)) in
@@ -150,9 +150,9 @@ keeps_the_rest s f bs u =
     (λ one off. budget_left (op_of i) (to_reply f bs) s.carried s.own (unfilled (op_of i) s.code s.step one off t₃.1))
     (reacts (op_of i) (program_of s.code) s (to_reply f bs)))))
   where
-    by_reply : (op : Op) (g : ℕ) → (row_at s.step (get_or kept_rows s.code [])).0 ≡ slot_of op → (row_at s.step (get_or kept_rows s.code [])).1 ≡ count_of op
-        → kept_bytes op (to_reply g bs) s.carried ≡ cond (eqb g 0) (kept_at s.step (get_or kept_rows s.code []) s.carried bs) s.carried
-    by_reply op zero a b = bytes_kept op s.carried bs ∙ rw (← a, ← b) refl ∙ sym (row_is s.step (get_or kept_rows s.code []) s.carried bs)
+    by_reply : (op : Op) (g : ℕ) → (row_at s.code s.step kept_rows).0 ≡ slot_of op → (row_at s.code s.step kept_rows).1 ≡ count_of op
+        → kept_bytes op (to_reply g bs) s.carried ≡ cond (eqb g 0) (kept_at s.code s.step kept_rows s.carried bs) s.carried
+    by_reply op zero a b = bytes_kept op s.carried bs ∙ rw (← a, ← b) refl ∙ sym (row_is s.code s.step kept_rows s.carried bs)
     by_reply op (suc e) a b = nothing_kept op s.carried e ∙ rw (ne_eqb (suc e) 0 (λ z. omega (arith, z))) refl
 
     unfilled : (op : Op) (code k : ℕ) → code ≡ 1 → gives_budget code k ≡ false → not (eqb code 1) || (not (fills_budget op) || gives_budget code k) ≡ true → fills_budget op ≡ false
@@ -163,7 +163,7 @@ keeps_the_rest s f bs u =
         go false h = refl
 
     ends : (op : Op) (o : Outcome)
-        → kept_bytes op (to_reply f bs) s.carried ≡ cond (eqb f 0) (kept_at s.step (get_or kept_rows s.code []) s.carried bs) s.carried
+        → kept_bytes op (to_reply f bs) s.carried ≡ cond (eqb f 0) (kept_at s.code s.step kept_rows s.carried bs) s.carried
         → kept_failure op (to_reply f bs) s.failed ≡ cond (reads_range_at s.code s.step) f s.failed
         → (s.code ≡ 1 → gives_budget s.code s.step ≡ false → kept_budget op (to_reply f bs) s.carried s.own ≡ s.own)
         → Carries (kept_of s op (to_reply f bs)) o → Keeps s f bs o

@@ -130,118 +130,96 @@ abbrev pub bytes_in : ℕ → ℕ → List Part
 bytes_in i zero = []
 bytes_in i (suc n) = byte_in i ∷ bytes_in (suc i) n
 
--- a first and a last step, and parts
+-- a call's code, a first and a last of its steps, and parts
 abbrev pub Rows : Type 0
-Rows = List (ℕ × ℕ × List Part)
+Rows = List (ℕ × ℕ × ℕ × List Part)
 
 -- six budget reads from a step on, whose bytes are carried from slot k on: each is needed up to the last
-abbrev pub budget_rows : ℕ → ℕ → Rows
-budget_rows first k =
-    (first + 1, first + 5, bytes_in k 1)
-    ∷ (first + 2, first + 5, bytes_in (k + 1) 2)
-    ∷ (first + 3, first + 5, bytes_in (k + 3) 2)
-    ∷ (first + 4, first + 5, bytes_in (k + 5) 1)
-    ∷ (first + 5, first + 5, bytes_in (k + 6) 1)
+abbrev pub budget_rows : ℕ → ℕ → ℕ → Rows
+budget_rows code first k =
+    (code, first + 1, first + 5, bytes_in k 1)
+    ∷ (code, first + 2, first + 5, bytes_in (k + 1) 2)
+    ∷ (code, first + 3, first + 5, bytes_in (k + 3) 2)
+    ∷ (code, first + 4, first + 5, bytes_in (k + 5) 1)
+    ∷ (code, first + 5, first + 5, bytes_in (k + 6) 1)
     ∷ []
 
 -- a range word, from the step after its read to the last
-abbrev pub range_rows : ℕ → Rows
-range_rows first = (first, first + 1, failure_code ∷ range_byte_in 4 ∷ range_byte_in 5 ∷ []) ∷ []
+abbrev pub range_row : ℕ → ℕ → ℕ × ℕ × ℕ × List Part
+range_row code first = (code, first, first + 1, failure_code ∷ range_byte_in 4 ∷ range_byte_in 5 ∷ [])
 
-abbrev pub budget_kept : ℕ → ℕ → List (ℕ × ℕ × ℕ)
-budget_kept first k =
-    (first, k, 1) ∷ (first + 1, k + 1, 2) ∷ (first + 2, k + 3, 2) ∷ (first + 3, k + 5, 1) ∷ (first + 4, k + 6, 1) ∷ (first + 5, k + 7, 1) ∷ []
-
--- by code: what a reply at a step, and all that comes after it, may depend on. Slots: 1 the stop byte, 3 the byte of 0x92, 4 the range word,
+-- what a reply at a step, and all that comes after it, may depend on. Slots: 1 the stop byte, 3 the byte of 0x92, 4 the range word,
 -- 8 the first budget replies and the low threshold, 16 the map and then the second budget replies
-unfoldable pub needed_rows : List Rows
+unfoldable pub needed_rows : Rows
 needed_rows =
-    []
-    ∷ ((0, 155, argument_a ∷ [])
-    ∷ (8, 155, bytes_in 1 1)
-    ∷ (29, 42, bytes_in 3 1)
-    ∷ (38, 42, bytes_in 16 6)
-    ∷ (135, 155, own_budget ∷ [])
-    ∷ budget_rows 129 8
-    ++ budget_rows 136 16)
-    ∷ []
-    ∷ ((0, 0, argument_a ∷ []) ∷ [])
-    ∷ ((0, 8, argument_a ∷ []) ∷ [])
-    ∷ []
-    ∷ range_rows 2
-    ∷ range_rows 2
-    ∷ range_rows 11
-    ∷ ((0, 6, argument_a ∷ []) ∷ budget_rows 0 8)
-    ∷ ((0, 0, argument_b ∷ []) ∷ [])
-    ∷ ((1, 1, bytes_in 8 2) ∷ [])
-    ∷ ((0, 1, argument_b ∷ []) ∷ [])
-    ∷ []
-    ∷ []
-    ∷ budget_rows 0 8
-    ∷ []
+    (1, 0, 155, argument_a ∷ [])
+    ∷ (1, 8, 155, bytes_in 1 1)
+    ∷ (1, 29, 42, bytes_in 3 1)
+    ∷ (1, 38, 42, bytes_in 16 6)
+    ∷ (1, 135, 155, own_budget ∷ [])
+    ∷ budget_rows 1 129 8
+    ++ budget_rows 1 136 16
+    ++ (3, 0, 0, argument_a ∷ [])
+    ∷ (4, 0, 8, argument_a ∷ [])
+    ∷ range_row 6 2
+    ∷ range_row 7 2
+    ∷ range_row 8 11
+    ∷ (9, 0, 6, argument_a ∷ [])
+    ∷ budget_rows 9 0 8
+    ++ (10, 0, 0, argument_b ∷ [])
+    ∷ (11, 1, 1, bytes_in 8 2)
+    ∷ (12, 0, 1, argument_b ∷ [])
+    ∷ budget_rows 15 0 8
 
--- by code: what the transfer that is out at a step is made of
-unfoldable pub sent_rows : List Rows
-sent_rows =
-    []
-    ∷ ((0, 155, argument_a ∷ [])
-    ∷ (2, 2, bytes_in 2 1)
-    ∷ (12, 12, bytes_in 2 1)
-    ∷ (20, 20, bytes_in 2 1)
-    ∷ (32, 32, bytes_in 2 1)
-    ∷ (43, 43, byte_in 3 ∷ bytes_in 16 6)
-    ∷ (126, 126, bytes_in 2 1)
-    ∷ (142, 142, own_budget ∷ bytes_in 16 8)
-    ∷ [])
-    ∷ []
-    ∷ ((0, 0, argument_a ∷ []) ∷ [])
-    ∷ ((8, 9, argument_a ∷ []) ∷ (8, 8, bytes_in 8 2) ∷ [])
-    ∷ []
-    ∷ []
-    ∷ []
-    ∷ []
-    ∷ ((6, 6, argument_a ∷ bytes_in 8 8) ∷ [])
-    ∷ ((0, 0, argument_a ∷ []) ∷ (1, 1, argument_b ∷ []) ∷ [])
-    ∷ []
-    ∷ ((0, 0, argument_a ∷ []) ∷ (2, 2, argument_b ∷ bytes_in 2 1) ∷ [])
-    ∷ []
-    ∷ ((0, 0, argument_a ∷ []) ∷ [])
-    ∷ []
-    ∷ []
-
--- by code: what the course of a call looks at when a reply is good: whether it goes on, and to which step, or the number of its answer
-unfoldable pub course_rows : List Rows
+-- what the course of a call looks at when a reply is good: whether it goes on, and to which step, or the number of its answer
+unfoldable pub course_rows : Rows
 course_rows =
-    []
-    ∷ ((135, 135, own_budget ∷ []) ∷ (141, 141, own_budget ∷ []) ∷ budget_rows 129 8 ++ budget_rows 136 16)
-    ∷ []
-    ∷ []
-    ∷ ((6, 7, argument_a ∷ []) ∷ [])
-    ∷ []
-    ∷ ((3, 3, failure_code ∷ []) ∷ [])
-    ∷ ((3, 3, failure_code ∷ []) ∷ [])
-    ∷ ((12, 12, failure_code ∷ []) ∷ [])
-    ∷ ((5, 5, argument_a ∷ []) ∷ budget_rows 0 8)
-    ∷ []
-    ∷ []
-    ∷ []
-    ∷ []
-    ∷ []
-    ∷ budget_rows 0 8
+    (1, 135, 135, own_budget ∷ [])
+    ∷ (1, 141, 141, own_budget ∷ [])
+    ∷ budget_rows 1 129 8
+    ++ budget_rows 1 136 16
+    ++ (4, 6, 7, argument_a ∷ [])
+    ∷ (6, 3, 3, failure_code ∷ [])
+    ∷ (7, 3, 3, failure_code ∷ [])
+    ∷ (8, 12, 12, failure_code ∷ [])
+    ∷ (9, 5, 5, argument_a ∷ [])
+    ∷ budget_rows 9 0 8
+    ++ budget_rows 15 0 8
+
+-- what the transfer that is out at a step is made of
+unfoldable pub sent_rows : Rows
+sent_rows =
+    (1, 0, 155, argument_a ∷ [])
+    ∷ (1, 2, 2, bytes_in 2 1)
+    ∷ (1, 12, 12, bytes_in 2 1)
+    ∷ (1, 20, 20, bytes_in 2 1)
+    ∷ (1, 32, 32, bytes_in 2 1)
+    ∷ (1, 43, 43, byte_in 3 ∷ bytes_in 16 6)
+    ∷ (1, 126, 126, bytes_in 2 1)
+    ∷ (1, 142, 142, own_budget ∷ bytes_in 16 8)
+    ∷ (3, 0, 0, argument_a ∷ [])
+    ∷ (4, 8, 9, argument_a ∷ [])
+    ∷ (4, 8, 8, bytes_in 8 2)
+    ∷ (9, 6, 6, argument_a ∷ bytes_in 8 8)
+    ∷ (10, 0, 0, argument_a ∷ [])
+    ∷ (10, 1, 1, argument_b ∷ [])
+    ∷ (12, 0, 0, argument_a ∷ [])
+    ∷ (12, 2, 2, argument_b ∷ bytes_in 2 1)
+    ∷ (14, 0, 0, argument_a ∷ [])
     ∷ []
 
-abbrev pub parts_at : ℕ → Rows → List Part
-parts_at step [] = []
-parts_at step (r ∷ rs) = cond (leb r.0 step && leb step r.1) (r.2 ++ parts_at step rs) (parts_at step rs)
+abbrev pub parts_at : ℕ → ℕ → Rows → List Part
+parts_at code step [] = []
+parts_at code step (r ∷ rs) = cond (eqb r.0 code && (leb r.1 step && leb step r.2)) (r.3 ++ parts_at code step rs) (parts_at code step rs)
 
 abbrev pub needed : ℕ → ℕ → List Part
-needed code step = parts_at step (get_or needed_rows code [])
-
-abbrev pub sent_from : ℕ → ℕ → List Part
-sent_from code step = parts_at step (get_or sent_rows code [])
+needed code step = parts_at code step needed_rows
 
 abbrev pub looked_at : ℕ → ℕ → List Part
-looked_at code step = parts_at step (get_or course_rows code [])
+looked_at code step = parts_at code step course_rows
+
+abbrev pub sent_from : ℕ → ℕ → List Part
+sent_from code step = parts_at code step sent_rows
 
 abbrev pub AllSame : List Part → Session → Session → Type 0
 AllSame [] s s' = Unit {0}
@@ -275,36 +253,51 @@ pub data SameCourse : Outcome → Outcome → Type 0 where
   both_end : (x x' : Answer) (n n' : ℕ) (s s' : Session) → number_of x ≡ number_of x' → SameCourse (answered x n s) (answered x' n' s')
   both_refuse : (x : Answer) (s s' : Session) → SameCourse (refused x s) (refused x s')
 
+-- the course looks at the parts of its table, and at nothing else
 abbrev pub CourseLooksAt : Session → Session → ℕ → List ℕ → Type 0
 CourseLooksAt s s' f bs =
     Underway s → Underway s' → AgreeOn (looked_at s.code s.step) s s' → SameCourse (step_def s (reply f bs)) (step_def s' (reply f bs))
 
--- by code: the step at which a good reply is kept, the slot, and how many bytes
-unfoldable pub kept_rows : List (List (ℕ × ℕ × ℕ))
-kept_rows =
-    []
-    ∷ ((0, 0, 1) ∷ (1, 2, 1) ∷ (7, 1, 1) ∷ (11, 2, 1) ∷ (19, 2, 1) ∷ (28, 3, 1) ∷ (31, 2, 1) ∷ (37, 16, 6) ∷ (125, 2, 1)
-    ∷ budget_kept 129 8
-    ++ budget_kept 136 16)
-    ∷ ((0, 0, 1) ∷ [])
-    ∷ []
-    ∷ ((7, 8, 2) ∷ [])
-    ∷ []
-    ∷ ((0, 2, 1) ∷ (1, 4, 2) ∷ [])
-    ∷ ((1, 4, 2) ∷ [])
-    ∷ ((10, 4, 2) ∷ [])
-    ∷ budget_kept 0 8
-    ∷ []
-    ∷ ((0, 8, 2) ∷ (1, 10, 2) ∷ [])
-    ∷ ((1, 2, 1) ∷ [])
-    ∷ []
-    ∷ []
-    ∷ budget_kept 0 8
+-- six budget reads: code, step, slot of the reply's bytes, and how many
+abbrev pub budget_kept : ℕ → ℕ → ℕ → List (ℕ × ℕ × ℕ × ℕ)
+budget_kept code first k =
+    (code, first, k, 1)
+    ∷ (code, first + 1, k + 1, 2)
+    ∷ (code, first + 2, k + 3, 2)
+    ∷ (code, first + 3, k + 5, 1)
+    ∷ (code, first + 4, k + 6, 1)
+    ∷ (code, first + 5, k + 7, 1)
     ∷ []
 
-abbrev pub kept_at : ℕ → List (ℕ × ℕ × ℕ) → List ℕ → List ℕ → List ℕ
-kept_at step [] l bs = l
-kept_at step (r ∷ rs) l bs = cond (eqb r.0 step) (sets l r.1 (bytes_from 0 r.2 bs)) (kept_at step rs l bs)
+-- where the bytes of a good reply are kept
+unfoldable pub kept_rows : List (ℕ × ℕ × ℕ × ℕ)
+kept_rows =
+    (1, 0, 0, 1)
+    ∷ (1, 1, 2, 1)
+    ∷ (1, 7, 1, 1)
+    ∷ (1, 11, 2, 1)
+    ∷ (1, 19, 2, 1)
+    ∷ (1, 28, 3, 1)
+    ∷ (1, 31, 2, 1)
+    ∷ (1, 37, 16, 6)
+    ∷ (1, 125, 2, 1)
+    ∷ budget_kept 1 129 8
+    ++ budget_kept 1 136 16
+    ++ (2, 0, 0, 1)
+    ∷ (4, 7, 8, 2)
+    ∷ (6, 0, 2, 1)
+    ∷ (6, 1, 4, 2)
+    ∷ (7, 1, 4, 2)
+    ∷ (8, 10, 4, 2)
+    ∷ budget_kept 9 0 8
+    ++ (11, 0, 8, 2)
+    ∷ (11, 1, 10, 2)
+    ∷ (12, 1, 2, 1)
+    ∷ budget_kept 15 0 8
+
+abbrev pub kept_at : ℕ → ℕ → List (ℕ × ℕ × ℕ × ℕ) → List ℕ → List ℕ → List ℕ
+kept_at code step [] l bs = l
+kept_at code step (r ∷ rs) l bs = cond (eqb r.0 code && eqb r.1 step) (sets l r.2 (bytes_from 0 r.3 bs)) (kept_at code step rs l bs)
 
 -- the range reads, and the last of a bring-up's first budget reads, after which the budget is kept too
 abbrev pub reads_range_at : ℕ → ℕ → Bool
@@ -316,16 +309,18 @@ gives_budget code step = eqb code 1 && eqb step 134
 -- a call that goes on keeps what it carries but for this
 abbrev pub Keeps : Session → ℕ → List ℕ → Outcome → Type 0
 Keeps s f bs (sent t s') =
-    (s'.carried ≡ cond (eqb f 0) (kept_at s.step (get_or kept_rows s.code []) s.carried bs) s.carried)
+    (s'.carried ≡ cond (eqb f 0) (kept_at s.code s.step kept_rows s.carried bs) s.carried)
     × (s'.failed ≡ cond (reads_range_at s.code s.step) f s.failed)
     × (s.code ≡ 1 → gives_budget s.code s.step ≡ false → s'.own ≡ s.own)
 Keeps s f bs (answered x n s') = Unit {0}
 Keeps s f bs (refused x s') = Unit {0}
 Keeps s f bs (broken s') = Unit {0}
 
+-- all else stays: the driver, the code, A and B by `OneMore`, the rest by this
 abbrev pub KeepsTheRest : Session → ℕ → List ℕ → Type 0
 KeepsTheRest s f bs = Underway s → Keeps s f bs (step_def s (reply f bs))
 
+-- the transfer that is out is made of its parts, and of nothing else
 abbrev pub SentFrom : Session → Session → Type 0
 SentFrom s s' = Underway s → Underway s' → AgreeOn (sent_from s.code s.step) s s' → outstanding s ≡ outstanding s'
 
@@ -408,6 +403,7 @@ EachAnswer s bs [] = Unit {0}
 EachAnswer s bs (r ∷ rs) =
     (s.code ≡ r.0 → s.step ≡ r.1 → step_def s (reply 0 bs) ≡ answered r.2 s.transfers (resting r.3)) × EachAnswer s bs rs
 
+-- so for every session, also one that no run leaves
 abbrev pub CarriedWrites : Session → Type 0
 CarriedWrites s = EachWrite s (writes_of s)
 
