@@ -6,6 +6,7 @@ use native.Mathlib.Omega.{arith}
 use borrow.Author.Tests.{ne_eqb}
 use lib.ListN.{length, get_or, take, drop}
 use lib.Seq.{take-suc, set-get_or, drop-drop}
+use Rattle.std.specs.List.{drop-map}
 use Rattle.std.specs.Prelude.{Option, None, Some, Result, Ok, Err}
 use Rattle.clock.specs.declared.Place.{Place}
 use Rattle.clock.specs.Places.{place_number}
@@ -160,11 +161,6 @@ module _ (fin : Context → Final) {k : ℕ} (slot : Slot k) {i : Instruction} (
           rw e (ap (λ l. hears (resume fin zero l c) (good bs)) x.at ∙ known_place fin x.kind h x.others c bs p e)
 
 -- ---- a session that waits for one of them
-drop_map : {A B : Type 0} (f : A → B) (n : ℕ) (l : List A) → drop n (map f l) ≡ map f (drop n l)
-drop_map f zero l = refl
-drop_map f (suc n) [] = refl
-drop_map f (suc n) (x ∷ l) = drop_map f n l
-
 first_read : (fin : Context → Final) {k n : ℕ} {i : Instruction} → Nth k n i → (idle : ℕ) (l : List Op) (c : Context)
     → left_of fin idle (op_of i ∷ l) c ≡ resume fin zero (op_of i ∷ l) c
 first_read fin (timing n) idle l c = refl
@@ -182,7 +178,7 @@ module _ (s : Session) (code j n : ℕ) {k : ℕ} (slot : Slot k) {i : Instructi
       let at : drop s.step (map op_of steps) ≡ drop n (map op_of (timing_reads k ++ i ∷ rest)) =
       ap (λ m. drop m (map op_of steps)) step
       ∙ sym (drop-drop n j (map op_of steps))
-      ∙ ap (drop n) (drop_map op_of j steps ∙ ap (map op_of) reads)
+      ∙ ap (drop n) (drop-map op_of j steps ∙ ap (map op_of) reads)
       in
       ap (λ m. left_of (program_of m).final s.idle (drop s.step (ops_of (program_of m))) (context_of s)) e
       ∙ ap (λ l. left_of fin s.idle l (context_of s)) (at ∙ x.at)
