@@ -1,6 +1,6 @@
 -- What the course of a call looks at, and what a call that goes on keeps.
 use mathlib.Core.Path.{◌≡◌, refl, sym}
-use mathlib.Core.Bool.{Bool, true, false, cond}
+use mathlib.Core.Bool.{true}
 use mathlib.Core.List.{List, [], ◌∷◌, map}
 use Prim.Native.Nat.{ℕ, zero, suc}
 use native.Mathlib.Omega.{arith}
@@ -10,12 +10,13 @@ use Rattle.session.specs.Bus.{Answer}
 use Rattle.session.specs.Instructions.{Instruction, Context, range_slot, wait, Final, success, failure, send_of}
 use Rattle.session.specs.Steps.{slot_word, op_of}
 use Rattle.session.specs.Calls.{Program, by_code, finishes, range_result, tuning, programs, program_of}
-use Rattle.session.specs.Machine.{Session, Outcome, refused, context_of, sending, conclude, enter, arrive, to_reply, stray}
-use Rattle.session.specs.AnySession.{Part, failure_code, course_rows, looked_at, SameCourse, both_go_on, both_end, both_refuse, CourseLooksAt}
+use Rattle.session.specs.Machine.{Session, context_of, sending, conclude, enter, arrive}
+use Rattle.session.specs.Parts.{Part, failure_code, course_rows, looked_at}
+use Rattle.session.specs.AnySession.{SameCourse, both_go_on, both_end, both_refuse, CourseLooksAt}
 use Rattle.session.proofs.Table.{of_table, of_test}
 use Rattle.session.proofs.Refused.{sound_of}
 use Rattle.session.proofs.Uses.{On}
-use Rattle.session.proofs.Pairs.{walk, step_ok, reacts, instruction_there, strays_same, met_at}
+use Rattle.session.proofs.Pairs.{walk, step_ok, replies, instruction_there}
 use Rattle.session.proofs.Needed.{kept_room, parts_on}
 
 -- the number of an end, 0 or 3, looks at the failure of a range read
@@ -82,17 +83,12 @@ course_looks_at s s' f bs u u' g =
     instruction_there s (sound_of s u).1 (λ i is at.
     let t : Pair s.code s s' = record { one = refl; other = sym g.code; room = g.room } in
     let o : On (looked_at s.code s.step) (context_of s) (context_of s') = parts_on (looked_at s.code s.step) s s' g.parts in
-    rw (met_at s s.code s.step i is f bs refl refl u at, met_at s' s.code s.step i is f bs (sym g.code) (sym g.step) u' at, ← (strays_same (op_of i) s s' f bs))
-    (go (stray (send_of (op_of i) (context_of s)) f bs)
-    (reacts s.code SameCourse (Pair s.code) (looked_at s.code) (arrival s.code) [] (all_ok s.code)
+    replies s.code SameCourse (Pair s.code) (looked_at s.code) (arrival s.code) [] (all_ok s.code)
     (λ x y t. t.one) (λ x y t. t.other) (λ x y t. t.room)
     (λ x y op r t. record { one = t.one; other = t.other; room = kept_room op r x y t.room })
     (arrives s.code)
     (λ k i w x y t o. both_go_on (send_of (wait w) (context_of x)) (send_of (wait w) (context_of y)) (sending k i x) (sending k i y) refl refl)
     (λ a x y t. both_end a a _ _ _ _ refl)
+    (λ x y. both_refuse Answer.StrayByte x y)
     (λ e x y t o. both_end _ _ _ _ _ _ refl)
-    s.step i is at s s' t o (to_reply f bs) refl (sym g.step) g.idle)))
-  where
-    go : {o o' : Outcome} (b : Bool) → SameCourse o o' → SameCourse (cond b (refused Answer.StrayByte s) o) (cond b (refused Answer.StrayByte s') o')
-    go true h = both_refuse Answer.StrayByte s s'
-    go false h = h
+    s.step i is at s s' t o f bs u u' refl (sym g.step) g.idle)

@@ -13,7 +13,8 @@ use Rattle.timing.specs.Timeouts.{time_in}
 use Rattle.budget.specs.Budget.{measurement_timing_budget}
 use Rattle.session.specs.Bus.{byte, Reply, bad, good}
 use Rattle.session.specs.Instructions.{Context, Op, write, read, wait, range, bytes_from, put, budget_in}
-use Rattle.session.specs.AnySession.{keeping, Part, byte_in, range_byte_in, failure_code, own_budget, argument_a, argument_b, bytes_in}
+use Rattle.session.specs.Parts.{Part, byte_in, range_byte_in, failure_code, own_budget, argument_a, argument_b, bytes_in}
+use Rattle.session.specs.AnySession.{keeping}
 use Rattle.session.proofs.Facts.{both, clash}
 use Rattle.session.proofs.Slots.{length_from, under, above}
 use Rattle.session.proofs.Uses.{part_in, On}

@@ -63,6 +63,7 @@ pub mod Pairs
 pub mod Needed
 pub mod Course
 pub mod Rest
+pub mod Failed
 pub mod Carried
 -- waits over any limit, and values
 pub mod Waits

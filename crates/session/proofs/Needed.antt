@@ -11,16 +11,17 @@ use Rattle.session.specs.Bus.{transfer_of, wait_register, Driver, Answer, Reply,
 use Rattle.session.specs.Instructions.{Instruction, Context, range_slot, bytes_from, kept_bytes, Op, write, read, wait, range, Final, success, failure, send_of, read_wins, report_of}
 use Rattle.session.specs.Steps.{op_of}
 use Rattle.session.specs.Calls.{Program, tuning, programs, program_of}
-use Rattle.session.specs.Machine.{Session, Outcome, sent, answered, held_by, address_of, resting, context_of, kept_of, sending, giving, conclude, enter, arrive, to_reply, stray, refused, outstanding}
+use Rattle.session.specs.Machine.{Session, sent, answered, held_by, address_of, resting, context_of, kept_of, sending, giving, conclude, enter, arrive, stray, outstanding}
 use Rattle.session.specs.Records.{reply, step_def}
-use Rattle.session.specs.AnySession.{Part, byte_in, range_byte_in, failure_code, own_budget, argument_a, argument_b, needed_rows, needed, sent_rows, sent_from, AllSame, AgreeOn, Agree, Alike, same_transfer, same_answer, same_refusal, DependsOnNeeded, SentFrom, IgnoresReadBack}
+use Rattle.session.specs.Parts.{Part, byte_in, range_byte_in, failure_code, own_budget, argument_a, argument_b, needed_rows, needed, sent_rows, sent_from}
+use Rattle.session.specs.AnySession.{AllSame, AgreeOn, Agree, Alike, same_transfer, same_answer, same_refusal, DependsOnNeeded, SentFrom, IgnoresReadBack}
 use Rattle.session.proofs.Facts.{both}
 use Rattle.session.proofs.Slots.{length_put}
 use Rattle.session.proofs.Table.{of_test}
 use Rattle.session.proofs.Cut.{stray_is}
 use Rattle.session.proofs.Refused.{sound_of}
 use Rattle.session.proofs.Uses.{On, Kin, sends_of, SendsFrom, sends_from, ends_of, end_of, ends_from}
-use Rattle.session.proofs.Pairs.{all_in, all_same, StepTest, walk, walk_at, step_ok, reacts, instruction_there, strays_same, met_at, out_at}
+use Rattle.session.proofs.Pairs.{all_in, all_same, StepTest, walk, walk_at, step_ok, replies, instruction_there, met_at, out_at}
 
 -- what an arrival at a step looks at: the end of the call, or what is sent there and what is needed from there on
 abbrev arrival : ℕ → ℕ → List Instruction → List Part
@@ -185,16 +186,10 @@ depends_on_needed s s' f bs u u' g =
     instruction_there s (sound_of s u).1 (λ i is at.
     let t : Twin s.code s s' = twins (needed s.code s.step) s s' g (sent_at s.code s.step i is at).address in
     let o : On (needed s.code s.step) (context_of s) (context_of s') = parts_on (needed s.code s.step) s s' g.parts in
-    rw (met_at s s.code s.step i is f bs refl refl u at, met_at s' s.code s.step i is f bs (sym g.code) (sym g.step) u' at, ← (strays_same (op_of i) s s' f bs))
-    (go (stray (send_of (op_of i) (context_of s)) f bs)
-    (reacts s.code Alike (Twin s.code) (needed s.code) (arrival s.code) (reported s.code) (all_ok s.code)
+    replies s.code Alike (Twin s.code) (needed s.code) (arrival s.code) (reported s.code) (all_ok s.code)
     (λ x y t. t.one) (λ x y t. t.other) (λ x y t. t.room) (twin_kept s.code) (arrives_alike s.code) (again_alike s.code)
-    (λ x y z t. gives_alike s.code x x y z t refl) (fails_alike s.code)
-    s.step i is at s s' t o (to_reply f bs) refl (sym g.step) g.idle)))
-  where
-    go : {o o' : Outcome} (b : Bool) → Alike o o' → Alike (cond b (refused Answer.StrayByte s) o) (cond b (refused Answer.StrayByte s') o')
-    go true h = same_refusal Answer.StrayByte s s'
-    go false h = h
+    (λ x y z t. gives_alike s.code x x y z t refl) (λ x y. same_refusal Answer.StrayByte x y) (fails_alike s.code)
+    s.step i is at s s' t o f bs u u' refl (sym g.step) g.idle)
 
 pub sent_from_these : (s s' : Session) → SentFrom s s'
 sent_from_these s s' u u' g =

@@ -16,7 +16,8 @@ use Rattle.session.specs.Calls.{Program, ops_of, program_of}
 use Rattle.session.specs.Machine.{Session, Outcome, sent, context_of, kept_of, sending, giving, arrive, decide, react, to_reply, stray, idle_wrong, malformed, refused, reply_def, outstanding}
 use Rattle.session.specs.Records.{reply, step_def}
 use Rattle.session.specs.Refusals.{Underway}
-use Rattle.session.specs.AnySession.{keeping, Part, byte_in, range_byte_in, failure_code, own_budget, argument_a, argument_b}
+use Rattle.session.specs.Parts.{Part, byte_in, range_byte_in, failure_code, own_budget, argument_a, argument_b}
+use Rattle.session.specs.AnySession.{keeping}
 use Rattle.session.proofs.Facts.{both, clash, untrue, drop_next}
 use Rattle.session.proofs.Cut.{stray_is}
 use Rattle.session.proofs.Strays.{sound_step}
@@ -119,6 +120,48 @@ walk_from ok j (suc k) (x ∷ l) i is h e =
 pub walk_at : (ok : StepTest) (l : List Instruction) (k : ℕ) (i : Instruction) (is : List Instruction) → walk ok 0 l ≡ true → drop k l ≡ i ∷ is → ok k i is ≡ true
 walk_at ok l k i is h e = subst (λ m. ok m i is ≡ true) (zero-add k) (walk_from ok 0 k l i is h e)
 
+-- the read length is the instruction's
+reads_same : (op : Op) (c c' : Context) → (send_of op c).reads ≡ (send_of op c').reads
+reads_same (write reg bytes len over after) c c' = refl
+reads_same (read reg len slot over after) c c' = refl
+reads_same (wait w) c c' = refl
+reads_same range c c' = refl
+
+pub strays_same : (op : Op) (s s' : Session) (f : ℕ) (bs : List ℕ) → stray (send_of op (context_of s)) f bs ≡ stray (send_of op (context_of s')) f bs
+strays_same op s s' f bs =
+    stray_is (send_of op (context_of s)) f bs
+    ∙ ap (λ n. not (zero_from (clean_from f n) bs)) (reads_same op (context_of s) (context_of s'))
+    ∙ sym (stray_is (send_of op (context_of s')) f bs)
+
+-- a step of the call, and what stands there
+pub instruction_there : (s : Session) → malformed s ≡ false → {A : Type 0}
+    → ((i : Instruction) (is : List Instruction) → drop s.step (program_of s.code).steps ≡ i ∷ is → A) → A
+instruction_there s m {A} f = go (drop s.step (program_of s.code).steps) refl
+  where
+    go : (l : List Instruction) → drop s.step (program_of s.code).steps ≡ l → A
+    go [] e =
+        let h : idle_wrong s.code (map op_of []) s.idle ≡ false = rw e at (rw (drop-map op_of s.step (program_of s.code).steps) at (sound_step s m)) in
+        untrue (sym h)
+    go (i ∷ is) e = f i is e
+
+-- a reply to the call of the code, at its step k
+pub met_at : (s : Session) (code k : ℕ) (i : Instruction) (is : List Instruction) (f : ℕ) (bs : List ℕ) → s.code ≡ code → s.step ≡ k → Underway s
+    → drop k (program_of code).steps ≡ i ∷ is
+    → step_def s (reply f bs) ≡ cond (stray (send_of (op_of i) (context_of s)) f bs) (refused Answer.StrayByte s) (react (op_of i) (program_of code) s (to_reply f bs))
+unfolding reply_def step_def
+met_at s code k i is f bs e e' u at =
+    let m = sound_of s u in
+    let here : drop s.step (program_of s.code).steps ≡ i ∷ is = rw (e, e') at in
+    let d : drop s.step (ops_of (program_of s.code)) ≡ op_of i ∷ map op_of is = drop-map op_of s.step (program_of s.code).steps ∙ ap (map op_of) here in
+    rw (m.0, m.1, d) (ap (λ n. cond (stray (send_of (op_of i) (context_of s)) f bs) (refused Answer.StrayByte s) (react (op_of i) (program_of n) s (to_reply f bs))) e)
+
+-- the transfer that a call has out at its step k
+pub out_at : (s : Session) (code k : ℕ) (i : Instruction) (is : List Instruction) → s.code ≡ code → s.step ≡ k → drop k (program_of code).steps ≡ i ∷ is
+    → outstanding s ≡ send_of (op_of i) (context_of s)
+out_at s code k i is e e' at =
+    let here : drop s.step (program_of s.code).steps ≡ i ∷ is = rw (e, e') at in
+    rw (drop-map op_of s.step (program_of s.code).steps ∙ ap (map op_of) here) refl
+
 -- what a failed write looks at
 abbrev pub reports : Op → List Part → List Part
 reports (write reg bytes len over after) ps = ps
@@ -167,6 +210,7 @@ module _ (code : ℕ) (R : Outcome → Outcome → Type 0) (Pair : Session → S
     (again : (k i : ℕ) (w : Condition) (s s' : Session) → Pair s s' → On (known k) (context_of s) (context_of s')
     → R (sent (send_of (wait w) (context_of s)) (sending k i s)) (sent (send_of (wait w) (context_of s')) (sending k i s')))
     (gives : (x : Answer) (s s' : Session) → Pair s s' → R (giving x s) (giving x s'))
+    (refuses : (s s' : Session) → R (refused Answer.StrayByte s) (refused Answer.StrayByte s'))
     (fails : (e : ℕ) (s s' : Session) → Pair s s' → On failed (context_of s) (context_of s')
     → R (giving (Answer.BusError (report_of (read_wins s.code) s.failed (suc e))) s) (giving (Answer.BusError (report_of (read_wins s'.code) s'.failed (suc e))) s')) where
   abbrev prog : Program
@@ -214,7 +258,7 @@ module _ (code : ℕ) (R : Outcome → Outcome → Type 0) (Pair : Session → S
     waited_as : (w : Condition) (bs : List ℕ) (x : Session) (n n' j j' m m' : ℕ) → n ≡ n' → j ≡ j' → m ≡ m' → waited w bs x n j m ≡ waited w bs x n' j' m'
     waited_as w bs x n n' j j' m m' a b c = rw (a, b, c) refl
 
-    pub reacts : (r : Reply) → s.step ≡ k → s'.step ≡ k → s.idle ≡ s'.idle → R (react (op_of i) prog s r) (react (op_of i) prog s' r)
+    reacts : (r : Reply) → s.step ≡ k → s'.step ≡ k → s.idle ≡ s'.idle → R (react (op_of i) prog s r) (react (op_of i) prog s' r)
     reacts r e e' q = go (op_of i) refl (decides_from i) r
       where
         after_on : (r : Reply) → Goes (op_of i) r → On (decides_of i) (context_of (kept_of s (op_of i) r)) (context_of (kept_of s' (op_of i) r))
@@ -264,44 +308,12 @@ module _ (code : ℕ) (R : Outcome → Outcome → Type 0) (Pair : Session → S
         go range z d (bad x) = on_range (bad x) (rw z tt) z
         go range z d (good bs) = on_range (good bs) (rw z tt) z
 
--- the read length is the instruction's
-reads_same : (op : Op) (c c' : Context) → (send_of op c).reads ≡ (send_of op c').reads
-reads_same (write reg bytes len over after) c c' = refl
-reads_same (read reg len slot over after) c c' = refl
-reads_same (wait w) c c' = refl
-reads_same range c c' = refl
-
-pub strays_same : (op : Op) (s s' : Session) (f : ℕ) (bs : List ℕ) → stray (send_of op (context_of s)) f bs ≡ stray (send_of op (context_of s')) f bs
-strays_same op s s' f bs =
-    stray_is (send_of op (context_of s)) f bs
-    ∙ ap (λ n. not (zero_from (clean_from f n) bs)) (reads_same op (context_of s) (context_of s'))
-    ∙ sym (stray_is (send_of op (context_of s')) f bs)
-
--- a step of the call, and what stands there
-pub instruction_there : (s : Session) → malformed s ≡ false → {A : Type 0}
-    → ((i : Instruction) (is : List Instruction) → drop s.step (program_of s.code).steps ≡ i ∷ is → A) → A
-instruction_there s m {A} f = go (drop s.step (program_of s.code).steps) refl
-  where
-    go : (l : List Instruction) → drop s.step (program_of s.code).steps ≡ l → A
-    go [] e =
-        let h : idle_wrong s.code (map op_of []) s.idle ≡ false = rw e at (rw (drop-map op_of s.step (program_of s.code).steps) at (sound_step s m)) in
-        untrue (sym h)
-    go (i ∷ is) e = f i is e
-
--- a reply to the call of the code, at its step k
-pub met_at : (s : Session) (code k : ℕ) (i : Instruction) (is : List Instruction) (f : ℕ) (bs : List ℕ) → s.code ≡ code → s.step ≡ k → Underway s
-    → drop k (program_of code).steps ≡ i ∷ is
-    → step_def s (reply f bs) ≡ cond (stray (send_of (op_of i) (context_of s)) f bs) (refused Answer.StrayByte s) (react (op_of i) (program_of code) s (to_reply f bs))
-unfolding reply_def step_def
-met_at s code k i is f bs e e' u at =
-    let m = sound_of s u in
-    let here : drop s.step (program_of s.code).steps ≡ i ∷ is = rw (e, e') at in
-    let d : drop s.step (ops_of (program_of s.code)) ≡ op_of i ∷ map op_of is = drop-map op_of s.step (program_of s.code).steps ∙ ap (map op_of) here in
-    rw (m.0, m.1, d) (ap (λ n. cond (stray (send_of (op_of i) (context_of s)) f bs) (refused Answer.StrayByte s) (react (op_of i) (program_of n) s (to_reply f bs))) e)
-
--- the transfer that a call has out at its step k
-pub out_at : (s : Session) (code k : ℕ) (i : Instruction) (is : List Instruction) → s.code ≡ code → s.step ≡ k → drop k (program_of code).steps ≡ i ∷ is
-    → outstanding s ≡ send_of (op_of i) (context_of s)
-out_at s code k i is e e' at =
-    let here : drop s.step (program_of s.code).steps ≡ i ∷ is = rw (e, e') at in
-    rw (drop-map op_of s.step (program_of s.code).steps ∙ ap (map op_of) here) refl
+    -- the reply's record meets both sessions
+    pub replies : (f : ℕ) (bs : List ℕ) → Underway s → Underway s' → s.step ≡ k → s'.step ≡ k → s.idle ≡ s'.idle → R (step_def s (reply f bs)) (step_def s' (reply f bs))
+    replies f bs u u' e e' q =
+        rw (met_at s code k i is f bs (one s s' t) e u at, met_at s' code k i is f bs (other s s' t) e' u' at, ← (strays_same (op_of i) s s' f bs))
+        (go (stray (send_of (op_of i) (context_of s)) f bs) (reacts (to_reply f bs) e e' q))
+      where
+        go : {o o' : Outcome} (b : Bool) → R o o' → R (cond b (refused Answer.StrayByte s) o) (cond b (refused Answer.StrayByte s') o')
+        go true h = refuses s s'
+        go false h = h

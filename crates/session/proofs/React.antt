@@ -68,7 +68,7 @@ failure_none code (e ∷ es) g = go (range_read code e.sent) e.reply g.0 (failur
 own_code : (s : Session) (ex : List Exchange) (e : ℕ) → AllGood ex → suc e ≡ reported s.code (range_failure s.code ex) (suc e)
 own_code s ex e g = rw (failure_none s.code ex g)
 
-report_is : (code k e : ℕ) → report_of (read_wins code) k e ≡ reported code k e
+pub report_is : (code k e : ℕ) → report_of (read_wins code) k e ≡ reported code k e
 report_is code k e = go (eqb code 6) k refl
   where
     go : (b : Bool) (j : ℕ) → eqb code 6 ≡ b → report_of b j e ≡ reported code j e

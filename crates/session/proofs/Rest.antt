@@ -13,7 +13,8 @@ use Rattle.session.specs.Instructions.{bytes_from, Verdict, onward, leap, stop, 
 use Rattle.session.specs.Steps.{op_of}
 use Rattle.session.specs.Calls.{Program, ops_of, tuning, programs, program_of}
 use Rattle.session.specs.Machine.{Session, Outcome, sent, answered, refused, broken, context_of, kept_of, conclude, enter, arrive, decide, react, to_reply, stray}
-use Rattle.session.specs.AnySession.{kept_rows, kept_at, reads_range_at, gives_budget, Keeps, KeepsTheRest}
+use Rattle.session.specs.Parts.{kept_rows, kept_at, reads_range_at, gives_budget}
+use Rattle.session.specs.AnySession.{Keeps, KeepsTheRest}
 use Rattle.session.proofs.Facts.{cond_case, both}
 use Rattle.session.proofs.Table.{of_test}
 use Rattle.session.proofs.Refused.{sound_of}

@@ -14,7 +14,7 @@ use Rattle.session.specs.Bus.{byte}
 use Rattle.session.specs.Instructions.{Instruction, Context, Op, write, read, wait, range, second_slot, bytes_from, timing_in}
 use Rattle.session.specs.Steps.{by_place, by_word, dss_of_call9, budget_to_set, word_to_set, no_time, timing_place, op_of}
 use Rattle.session.specs.Calls.{Program, range_result, programs, program_of}
-use Rattle.session.specs.AnySession.{Part, byte_in, range_byte_in, failure_code, own_budget, argument_a, argument_b, bytes_in}
+use Rattle.session.specs.Parts.{Part, byte_in, range_byte_in, failure_code, own_budget, argument_a, argument_b, bytes_in}
 use Rattle.session.proofs.Table.{of_table}
 use Rattle.session.proofs.Later.{first_replies}
 

@@ -1,9 +1,8 @@
 -- What holds of every session that is handed in, also one that no run leaves: a call begins with its own code, arguments and count, and a call that
 -- waits goes on in what is left of its script. 01: "arithmetic on carried bytes gives the first place in the Rust's order, also where no driver run
 -- could have left them".
-use Rattle.std.specs.Prelude.{◌≡◌, Bool, true, false, ◌&&◌, ◌||◌, cond, eqb, leb, get_or, List, [], ◌∷◌, ◌++◌, ℕ, zero, suc, ◌+◌, ◌-◌, ◌*◌, ◌/◌, ◌%◌, ◌≤◌, length, take, drop}
-use Rattle.std.proofs.lemmas.List.Edits.{sets}
-use Rattle.session.specs.Bus.{byte, transfer_of, with_driver_address, with_driver_budget, Driver, Transfer, Answer, Reply, bad, good, wait_limit, idle_on, zero_from, clean_from, number_of}
+use Rattle.std.specs.Prelude.{◌≡◌, true, false, ◌&&◌, cond, eqb, leb, get_or, List, [], ◌∷◌, ◌++◌, ℕ, zero, suc, ◌+◌, ◌-◌, ◌*◌, ◌/◌, ◌%◌, ◌≤◌, length, take, drop}
+use Rattle.session.specs.Bus.{byte, absent, transfer_of, with_driver_address, with_driver_budget, Driver, Transfer, Answer, Reply, bad, good, wait_limit, idle_on, zero_from, clean_from, number_of}
 use Rattle.session.specs.Instructions.{Context, bytes_from, stop_answer, Verdict, onward, leap, stop, test, Op, write, read, wait, range, Final, success, failure, send_of, kept_bytes, kept_failure, kept_budget, read_wins, report_of}
 use Rattle.session.specs.Calls.{ops_of, program_of}
 use Rattle.session.specs.Machine.{Session, Outcome, sent, answered, refused, broken, resting, context_of, begun, outstanding}
@@ -16,6 +15,8 @@ use Rattle.session.specs.RustCalls.{start_timed, get_measurement_timing_budget, 
 use Rattle.session.specs.RustBringUp.{enable_ref_spads, method, constructed, number, flag, unit, calibration, budget_and_calibration}
 use Rattle.session.specs.Claim1.{chip_address}
 use Rattle.session.specs.Claim2.{Accepted}
+use Rattle.session.specs.Claim3.{reported}
+use Rattle.session.specs.Parts.{Part, part_of, needed, looked_at, sent_from, kept_rows, kept_at, reads_range_at, gives_budget}
 
 abbrev pub keeping : Context → Op → Reply → Context
 keeping c op r =
@@ -110,117 +111,7 @@ StepByStep s f bs =
     → zero_from (clean_from f (outstanding s).reads) bs ≡ true
     → StandsAt s (step_def s (reply f bs)) (hears (left s) (cut (outstanding s) f bs))
 
--- WHAT IS NEEDED. 01: "While a call waits the session carries its arguments and the reply bytes still needed, raw". A part of what it carries
-pub data Part : Type 0 where
-  -- the byte in a slot
-  byte_in : ℕ → Part
-  -- a byte of the range word, which counts where its read did not fail
-  range_byte_in : ℕ → Part
-  failure_code own_budget argument_a argument_b : Part
-
-abbrev pub part_of : Part → Session → ℕ
-part_of (byte_in i) s = byte i s.carried
-part_of (range_byte_in i) s = cond (eqb s.failed 0) (byte i s.carried) 0
-part_of failure_code s = s.failed
-part_of own_budget s = s.own
-part_of argument_a s = s.a
-part_of argument_b s = s.b
-
-abbrev pub bytes_in : ℕ → ℕ → List Part
-bytes_in i zero = []
-bytes_in i (suc n) = byte_in i ∷ bytes_in (suc i) n
-
--- a call's code, a first and a last of its steps, and parts
-abbrev pub Rows : Type 0
-Rows = List (ℕ × ℕ × ℕ × List Part)
-
--- six budget reads from a step on, whose bytes are carried from slot k on: each is needed up to the last
-abbrev pub budget_rows : ℕ → ℕ → ℕ → Rows
-budget_rows code first k =
-    (code, first + 1, first + 5, bytes_in k 1)
-    ∷ (code, first + 2, first + 5, bytes_in (k + 1) 2)
-    ∷ (code, first + 3, first + 5, bytes_in (k + 3) 2)
-    ∷ (code, first + 4, first + 5, bytes_in (k + 5) 1)
-    ∷ (code, first + 5, first + 5, bytes_in (k + 6) 1)
-    ∷ []
-
--- a range word, from the step after its read to the last
-abbrev pub range_row : ℕ → ℕ → ℕ × ℕ × ℕ × List Part
-range_row code first = (code, first, first + 1, failure_code ∷ range_byte_in 4 ∷ range_byte_in 5 ∷ [])
-
--- what a reply at a step, and all that comes after it, may depend on. Slots: 1 the stop byte, 3 the byte of 0x92, 4 the range word,
--- 8 the first budget replies and the low threshold, 16 the map and then the second budget replies
-unfoldable pub needed_rows : Rows
-needed_rows =
-    (1, 0, 155, argument_a ∷ [])
-    ∷ (1, 8, 155, bytes_in 1 1)
-    ∷ (1, 29, 42, bytes_in 3 1)
-    ∷ (1, 38, 42, bytes_in 16 6)
-    ∷ (1, 135, 155, own_budget ∷ [])
-    ∷ budget_rows 1 129 8
-    ++ budget_rows 1 136 16
-    ++ (3, 0, 0, argument_a ∷ [])
-    ∷ (4, 0, 8, argument_a ∷ [])
-    ∷ range_row 6 2
-    ∷ range_row 7 2
-    ∷ range_row 8 11
-    ∷ (9, 0, 6, argument_a ∷ [])
-    ∷ budget_rows 9 0 8
-    ++ (10, 0, 0, argument_b ∷ [])
-    ∷ (11, 1, 1, bytes_in 8 2)
-    ∷ (12, 0, 1, argument_b ∷ [])
-    ∷ budget_rows 15 0 8
-
--- what the course of a call looks at when a reply is good: whether it goes on, and to which step, or the number of its answer
-unfoldable pub course_rows : Rows
-course_rows =
-    (1, 135, 135, own_budget ∷ [])
-    ∷ (1, 141, 141, own_budget ∷ [])
-    ∷ budget_rows 1 129 8
-    ++ budget_rows 1 136 16
-    ++ (4, 6, 7, argument_a ∷ [])
-    ∷ (6, 3, 3, failure_code ∷ [])
-    ∷ (7, 3, 3, failure_code ∷ [])
-    ∷ (8, 12, 12, failure_code ∷ [])
-    ∷ (9, 5, 5, argument_a ∷ [])
-    ∷ budget_rows 9 0 8
-    ++ budget_rows 15 0 8
-
--- what the transfer that is out at a step is made of
-unfoldable pub sent_rows : Rows
-sent_rows =
-    (1, 0, 155, argument_a ∷ [])
-    ∷ (1, 2, 2, bytes_in 2 1)
-    ∷ (1, 12, 12, bytes_in 2 1)
-    ∷ (1, 20, 20, bytes_in 2 1)
-    ∷ (1, 32, 32, bytes_in 2 1)
-    ∷ (1, 43, 43, byte_in 3 ∷ bytes_in 16 6)
-    ∷ (1, 126, 126, bytes_in 2 1)
-    ∷ (1, 142, 142, own_budget ∷ bytes_in 16 8)
-    ∷ (3, 0, 0, argument_a ∷ [])
-    ∷ (4, 8, 9, argument_a ∷ [])
-    ∷ (4, 8, 8, bytes_in 8 2)
-    ∷ (9, 6, 6, argument_a ∷ bytes_in 8 8)
-    ∷ (10, 0, 0, argument_a ∷ [])
-    ∷ (10, 1, 1, argument_b ∷ [])
-    ∷ (12, 0, 0, argument_a ∷ [])
-    ∷ (12, 2, 2, argument_b ∷ bytes_in 2 1)
-    ∷ (14, 0, 0, argument_a ∷ [])
-    ∷ []
-
-abbrev pub parts_at : ℕ → ℕ → Rows → List Part
-parts_at code step [] = []
-parts_at code step (r ∷ rs) = cond (eqb r.0 code && (leb r.1 step && leb step r.2)) (r.3 ++ parts_at code step rs) (parts_at code step rs)
-
-abbrev pub needed : ℕ → ℕ → List Part
-needed code step = parts_at code step needed_rows
-
-abbrev pub looked_at : ℕ → ℕ → List Part
-looked_at code step = parts_at code step course_rows
-
-abbrev pub sent_from : ℕ → ℕ → List Part
-sent_from code step = parts_at code step sent_rows
-
+-- WHAT IS NEEDED. Parts in which two sessions are the same
 abbrev pub AllSame : List Part → Session → Session → Type 0
 AllSame [] s s' = Unit {0}
 AllSame (p ∷ ps) s s' = (part_of p s ≡ part_of p s') × AllSame ps s s'
@@ -258,54 +149,6 @@ abbrev pub CourseLooksAt : Session → Session → ℕ → List ℕ → Type 0
 CourseLooksAt s s' f bs =
     Underway s → Underway s' → AgreeOn (looked_at s.code s.step) s s' → SameCourse (step_def s (reply f bs)) (step_def s' (reply f bs))
 
--- six budget reads: code, step, slot of the reply's bytes, and how many
-abbrev pub budget_kept : ℕ → ℕ → ℕ → List (ℕ × ℕ × ℕ × ℕ)
-budget_kept code first k =
-    (code, first, k, 1)
-    ∷ (code, first + 1, k + 1, 2)
-    ∷ (code, first + 2, k + 3, 2)
-    ∷ (code, first + 3, k + 5, 1)
-    ∷ (code, first + 4, k + 6, 1)
-    ∷ (code, first + 5, k + 7, 1)
-    ∷ []
-
--- where the bytes of a good reply are kept
-unfoldable pub kept_rows : List (ℕ × ℕ × ℕ × ℕ)
-kept_rows =
-    (1, 0, 0, 1)
-    ∷ (1, 1, 2, 1)
-    ∷ (1, 7, 1, 1)
-    ∷ (1, 11, 2, 1)
-    ∷ (1, 19, 2, 1)
-    ∷ (1, 28, 3, 1)
-    ∷ (1, 31, 2, 1)
-    ∷ (1, 37, 16, 6)
-    ∷ (1, 125, 2, 1)
-    ∷ budget_kept 1 129 8
-    ++ budget_kept 1 136 16
-    ++ (2, 0, 0, 1)
-    ∷ (4, 7, 8, 2)
-    ∷ (6, 0, 2, 1)
-    ∷ (6, 1, 4, 2)
-    ∷ (7, 1, 4, 2)
-    ∷ (8, 10, 4, 2)
-    ∷ budget_kept 9 0 8
-    ++ (11, 0, 8, 2)
-    ∷ (11, 1, 10, 2)
-    ∷ (12, 1, 2, 1)
-    ∷ budget_kept 15 0 8
-
-abbrev pub kept_at : ℕ → ℕ → List (ℕ × ℕ × ℕ × ℕ) → List ℕ → List ℕ → List ℕ
-kept_at code step [] l bs = l
-kept_at code step (r ∷ rs) l bs = cond (eqb r.0 code && eqb r.1 step) (sets l r.2 (bytes_from 0 r.3 bs)) (kept_at code step rs l bs)
-
--- the range reads, and the last of a bring-up's first budget reads, after which the budget is kept too
-abbrev pub reads_range_at : ℕ → ℕ → Bool
-reads_range_at code step = (eqb code 6 && eqb step 1) || (eqb code 7 && eqb step 1) || (eqb code 8 && eqb step 10)
-
-abbrev pub gives_budget : ℕ → ℕ → Bool
-gives_budget code step = eqb code 1 && eqb step 134
-
 -- a call that goes on keeps what it carries but for this
 abbrev pub Keeps : Session → ℕ → List ℕ → Outcome → Type 0
 Keeps s f bs (sent t s') =
@@ -319,6 +162,24 @@ Keeps s f bs (broken s') = Unit {0}
 -- all else stays: the driver, the code, A and B by `OneMore`, the rest by this
 abbrev pub KeepsTheRest : Session → ℕ → List ℕ → Type 0
 KeepsTheRest s f bs = Underway s → Keeps s f bs (step_def s (reply f bs))
+
+-- FAILURES. The code that a failed reply ends a call with. 01: "If clearing fails too, call 6 reports the read's code, calls 7 and 8 the clearing's":
+-- the clearing comes after the range read
+abbrev pub failure_reported : Session → ℕ → ℕ
+failure_reported s f = cond (eqb s.code 6 && leb 2 s.step) (reported s.code s.failed f) f
+
+-- 01: "fields follow the history rule": a bring-up that ends so leaves none
+abbrev pub fields_left : Session → Driver
+fields_left s = cond (eqb s.code 1) absent s.driver
+
+-- a failed reply ends its call at once, except a failed range read
+abbrev pub FailureEnds : Session → ℕ → List ℕ → Type 0
+FailureEnds s f bs =
+    Underway s
+    → (f ≡ 0 → ⊥)
+    → zero_from 0 bs ≡ true
+    → reads_range_at s.code s.step ≡ false
+    → step_def s (reply f bs) ≡ answered (Answer.BusError (failure_reported s f)) s.transfers (resting (fields_left s))
 
 -- the transfer that is out is made of its parts, and of nothing else
 abbrev pub SentFrom : Session → Session → Type 0

@@ -21,6 +21,7 @@ pub mod Claim1
 pub mod Claim2
 pub mod Claim3
 -- what holds of every session that is handed in
+pub mod Parts
 pub mod AnySession
 -- waits over any limit, and values
 pub mod AnyLimit
