@@ -1,7 +1,7 @@
 -- Blocks join, and what is printed tells the history of the list run.
 use mathlib.Core.Path.{◌≡◌, refl, sym, ap, ◌∙◌}
 use mathlib.Core.List.{List, [], ◌∷◌, ◌++◌, append_assoc, append-nil}
-use Prim.Native.Nat.{ℕ, ◌*◌, ◌/◌, ◌%◌, ◌<◌}
+use Prim.Native.Nat.{ℕ, ◌*◌, ◌/◌, ◌%◌}
 use native.Mathlib.Omega.{arith}
 use borrow.Author.Tests.{eqb-true}
 use lib.ListN.{length, drop, length-take, length-drop, length-append, take-append-drop}
@@ -16,6 +16,7 @@ use Rattle.lines.specs.Lines.{given_line, outcome_line, fields_line}
 use Rattle.blocks.specs.Blocks.{lines_of, session_past}
 use Rattle.blocks.specs.Input.{after_lines, text_from, spare_line, rolltrace_text, rollfields_text}
 use Rattle.blocks.specs.Laws.{BlocksJoin, got_line, history_lines, history_fields, whole_part, TellsHistory}
+use Rattle.records.proofs.Chunks.{too_few}
 use Rattle.blocks.proofs.Texts.{kept_session}
 
 -- whole records before other bytes
@@ -31,19 +32,6 @@ records_join (a₀ ∷ a₁ ∷ a₂ ∷ a₃ ∷ a₄ ∷ a₅ ∷ []) b w = ab
 records_join (a₀ ∷ a₁ ∷ a₂ ∷ a₃ ∷ a₄ ∷ a₅ ∷ a₆ ∷ []) b w = absurd (omega (arith, w))
 records_join (a₀ ∷ a₁ ∷ a₂ ∷ a₃ ∷ a₄ ∷ a₅ ∷ a₆ ∷ a₇ ∷ l) b w =
     ap (λ (rs : List Record). record_of a₀ a₁ a₂ a₃ a₄ a₅ a₆ a₇ ∷ rs) (records_join l b (omega (arith, w)))
-
--- fewer than eight bytes are no record
-pub too_few : (l : List ℕ) → length l < 8 → records_of l ≡ []
-unfolding records_of
-too_few [] h = refl
-too_few (a₀ ∷ []) h = refl
-too_few (a₀ ∷ a₁ ∷ []) h = refl
-too_few (a₀ ∷ a₁ ∷ a₂ ∷ []) h = refl
-too_few (a₀ ∷ a₁ ∷ a₂ ∷ a₃ ∷ []) h = refl
-too_few (a₀ ∷ a₁ ∷ a₂ ∷ a₃ ∷ a₄ ∷ []) h = refl
-too_few (a₀ ∷ a₁ ∷ a₂ ∷ a₃ ∷ a₄ ∷ a₅ ∷ []) h = refl
-too_few (a₀ ∷ a₁ ∷ a₂ ∷ a₃ ∷ a₄ ∷ a₅ ∷ a₆ ∷ []) h = refl
-too_few (a₀ ∷ a₁ ∷ a₂ ∷ a₃ ∷ a₄ ∷ a₅ ∷ a₆ ∷ a₇ ∷ l) h = absurd (omega (arith, h))
 
 module _ (line : Outcome → List ℕ) where
   lines_join : (s : Session) (rs more : List Record) → lines_of line s (rs ++ more) ≡ lines_of line s rs ++ lines_of line (session_past s rs) more

@@ -11,24 +11,11 @@ use lib.ListN.{length, get_or, drop, length-drop}
 use lib.Seq.{get_or-drop}
 use borrow.Author.Tests.{le-leb, lt-leb, ne_eqb}
 use Rattle.spad.proofs.Laws.{lt_or_ge}
-use Rattle.session.specs.Records.{records_of}
 use Rattle.records.specs.Records.{record_in, record_at}
+use Rattle.records.proofs.Chunks.{too_few}
 use Rattle.records.proofs.Turns.{records_first}
 use Rattle.reader.specs.declared.Event.{Event}
 use Rattle.reader.specs.Events.{event_of, last_of, events_of, event_number, event_at, place_after, place_after_all}
-
--- fewer than eight bytes are no record
-short : (m : List ℕ) → length m < 8 → records_of m ≡ []
-unfolding records_of
-short [] h = refl
-short (a ∷ []) h = refl
-short (a ∷ b ∷ []) h = refl
-short (a ∷ b ∷ c ∷ []) h = refl
-short (a ∷ b ∷ c ∷ d ∷ []) h = refl
-short (a ∷ b ∷ c ∷ d ∷ e ∷ []) h = refl
-short (a ∷ b ∷ c ∷ d ∷ e ∷ f ∷ []) h = refl
-short (a ∷ b ∷ c ∷ d ∷ e ∷ f ∷ g ∷ []) h = refl
-short (a ∷ b ∷ c ∷ d ∷ e ∷ f ∷ g ∷ k ∷ m) h = absurd (omega arith)
 
 module _ (l : List ℕ) (i : ℕ) where
   -- where there is a record: it, and the events after it, which end as before
@@ -60,7 +47,7 @@ module _ (l : List ℕ) (i : ℕ) where
           rw (le-leb (length l) i b, none) refl
 
   only : length l < i + 8 → i ≤ length l → events_of (drop i l) ≡ last_of (drop i l) ∷ []
-  only h k = rw (short (drop i l) (rw length-drop (omega arith))) refl
+  only h k = rw (too_few (drop i l) (rw length-drop (omega arith))) refl
 
 -- the events after the last are that one again
 past_one : (n : ℕ) (x : Event) → get_or (x ∷ []) n x ≡ x

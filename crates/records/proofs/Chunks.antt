@@ -1,7 +1,7 @@
 -- The chunks of eight bytes that a list has are its records.
 use mathlib.Core.Path.{◌≡◌, refl, ap}
 use mathlib.Core.List.{List, [], ◌∷◌, map}
-use Prim.Native.Nat.{ℕ, suc, ◌/◌}
+use Prim.Native.Nat.{ℕ, suc, ◌/◌, ◌<◌}
 use native.Mathlib.Omega.{arith}
 use lib.ListN.{length}
 use Rattle.std.specs.Simd.{first_chunks}
@@ -46,3 +46,16 @@ of_chunks (a ∷ b ∷ c ∷ d ∷ e ∷ f ∷ g ∷ h ∷ l) = ap (λ (rs : Lis
 
 pub records_chunked : (l : List ℕ) → map record_in (first_chunks 8 (length l / 8) l) ≡ records_of l
 records_chunked l = rw (chunked l) (of_chunks l)
+
+-- fewer than eight bytes are no record
+pub too_few : (l : List ℕ) → length l < 8 → records_of l ≡ []
+unfolding records_of
+too_few [] h = refl
+too_few (a₀ ∷ []) h = refl
+too_few (a₀ ∷ a₁ ∷ []) h = refl
+too_few (a₀ ∷ a₁ ∷ a₂ ∷ []) h = refl
+too_few (a₀ ∷ a₁ ∷ a₂ ∷ a₃ ∷ []) h = refl
+too_few (a₀ ∷ a₁ ∷ a₂ ∷ a₃ ∷ a₄ ∷ []) h = refl
+too_few (a₀ ∷ a₁ ∷ a₂ ∷ a₃ ∷ a₄ ∷ a₅ ∷ []) h = refl
+too_few (a₀ ∷ a₁ ∷ a₂ ∷ a₃ ∷ a₄ ∷ a₅ ∷ a₆ ∷ []) h = refl
+too_few (a₀ ∷ a₁ ∷ a₂ ∷ a₃ ∷ a₄ ∷ a₅ ∷ a₆ ∷ a₇ ∷ l) h = absurd (omega (arith, h))

@@ -7,8 +7,8 @@ use native.Mathlib.Omega.{arith}
 use lib.Dec.{eqb}
 use lib.ListN.{length, drop}
 use Rattle.std.specs.List.{drop-map}
-use Rattle.session.specs.Bus.{transfer_of, wait_register, Driver, Answer, Reply, bad, good, Condition, absent, zero_from}
-use Rattle.session.specs.Instructions.{Instruction, Context, range_slot, bytes_from, kept_bytes, Op, write, read, wait, range, Final, success, failure, send_of, read_wins, report_of}
+use Rattle.session.specs.Bus.{transfer_of, wait_register, Driver, Answer, Reply, Condition, absent, zero_from}
+use Rattle.session.specs.Instructions.{Instruction, Context, kept_bytes, Op, write, read, wait, range, Final, success, failure, send_of, read_wins, report_of}
 use Rattle.session.specs.Steps.{op_of}
 use Rattle.session.specs.Calls.{Program, tuning, programs, program_of}
 use Rattle.session.specs.Machine.{Session, sent, answered, held_by, address_of, resting, context_of, kept_of, sending, giving, conclude, enter, arrive, stray, outstanding}
@@ -16,7 +16,7 @@ use Rattle.session.specs.Records.{reply, step_def}
 use Rattle.session.specs.Parts.{Part, byte_in, range_byte_in, failure_code, own_budget, argument_a, argument_b, needed_rows, needed, sent_rows, sent_from}
 use Rattle.session.specs.AnySession.{AllSame, AgreeOn, Agree, Alike, same_transfer, same_answer, same_refusal, DependsOnNeeded, SentFrom, IgnoresReadBack}
 use Rattle.session.proofs.Facts.{both}
-use Rattle.session.proofs.Slots.{length_put}
+use Rattle.session.proofs.Trace.{length_kept}
 use Rattle.session.proofs.Table.{of_test}
 use Rattle.session.proofs.Cut.{stray_is}
 use Rattle.session.proofs.Refused.{sound_of}
@@ -110,12 +110,7 @@ send_same i c c' m o = go (op_of i) (sends_from i)
     go range d = rw m.address refl
 
 pub kept_room : (op : Op) (r : Reply) (s s' : Session) → length s.carried ≡ length s'.carried → length (kept_bytes op r s.carried) ≡ length (kept_bytes op r s'.carried)
-kept_room (write reg bytes len over after) r s s' e = e
-kept_room (read reg len slot over after) (bad x) s s' e = e
-kept_room (read reg len slot over after) (good bs) s s' e = length_put s.carried slot (bytes_from 0 len bs) ∙ e ∙ sym (length_put s'.carried slot (bytes_from 0 len bs))
-kept_room (wait w) r s s' e = e
-kept_room range (bad x) s s' e = e
-kept_room range (good bs) s s' e = length_put s.carried range_slot (bytes_from 0 2 bs) ∙ e ∙ sym (length_put s'.carried range_slot (bytes_from 0 2 bs))
+kept_room op r s s' e = length_kept op r s.carried ∙ e ∙ sym (length_kept op r s'.carried)
 
 module _ (code : ℕ) where
   abbrev prog : Program

@@ -5,7 +5,7 @@ use mathlib.Core.List.{List, [], ◌∷◌}
 use Prim.Native.Nat.{ℕ, zero, suc, ◌+◌, ◌<◌, ◌≤◌}
 use native.Mathlib.Omega.{arith}
 use lib.Dec.{eqb, ltb}
-use lib.ListN.{length, drop}
+use lib.ListN.{drop}
 use borrow.Author.Tests.{ltb-true}
 use Rattle.std.specs.Prelude.{Option, None, Some}
 use Rattle.clock.specs.declared.Place.{Place}
@@ -17,14 +17,14 @@ use Rattle.budget.proofs.Bounds.{budget_fits}
 use Rattle.session.specs.declared.Session.{Session}
 use Rattle.session.specs.declared.Driver.{Driver}
 use Rattle.session.specs.Bus.{Reply, bad, good, Condition, detector_ready, status_ready, started, wait_limit, idle_on, byte}
-use Rattle.session.specs.Instructions.{Verdict, onward, leap, stop, test, Op, write, read, wait, range, Final, success, failure, timing_slot, bytes_from, put, budget_in, kept_bytes, kept_budget, send_of}
+use Rattle.session.specs.Instructions.{Verdict, onward, leap, stop, test, Op, write, read, wait, range, Final, success, failure, timing_slot, bytes_from, put, budget_in, kept_budget, send_of}
 use Rattle.session.specs.Calls.{programs, ops_of, program_of, by_code, arguments_ok}
 use Rattle.session.specs.Machine.{Outcome, resting, held_by, context_of, kept_of, conclude, enter, arrive, decide, react, to_reply, stray, on_ops, ill_formed, waits_now, reply_def, begun, not_up, begin_def, other_def}
 use Rattle.session.specs.Records.{Record, step_def}
 use Rattle.session.specs.History.{session_of}
 use Rattle.session.proofs.Facts.{cond_case}
 use Rattle.session.proofs.Table.{of_table}
-use Rattle.session.proofs.Slots.{length_put}
+use Rattle.session.proofs.Trace.{length_kept}
 use Rattle.checks.proofs.Places.{well_formed}
 use Rattle.records.specs.Records.{record_in}
 use Rattle.layout.specs.RoundTrip.{Fits, are_bytes}
@@ -64,14 +64,6 @@ own_small (read reg len slot over after) (good bs) l own h =
 own_small (wait x) r l own h = h
 own_small range r l own h = h
 
-same_length : (op : Op) (r : Reply) (l : List ℕ) → length (kept_bytes op r l) ≡ length l
-same_length (write reg bytes len over after) r l = refl
-same_length (read reg len slot over after) (bad e) l = refl
-same_length (read reg len slot over after) (good bs) l = length_put l slot (bytes_from 0 len bs)
-same_length (wait x) r l = refl
-same_length range (bad e) l = refl
-same_length range (good bs) l = length_put l 4 (bytes_from 0 2 bs)
-
 kept_fits : (s : Session) (op : Op) (r : Reply) → Fits s → Fits (kept_of s op r)
 kept_fits s op r h =
     record {
@@ -81,7 +73,7 @@ kept_fits s op r h =
       idle = h.idle;
       transfers = h.transfers;
       own = own_small op r s.carried s.own h.own;
-      carried = rw (same_length op r s.carried) h.carried;
+      carried = rw (length_kept op r s.carried) h.carried;
     }
 
 -- the end of a call
