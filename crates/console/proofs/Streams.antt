@@ -1,7 +1,7 @@
 -- What is written part by part, and what is left to write.
 use Rattle.std.proofs.Common.{◌≡◌, ℕ, ◌+◌, ◌-◌, ◌*◌, ◌/◌, ◌%◌, ◌≤◌, List, [], ◌∷◌, ◌++◌, Option, None, Some, IfSome, Result, refl, sym, ap, subst, ◌∙◌, arith, append_assoc, length, take, drop, length-drop, take-append-drop}
 use lib.Seq.{take-add}
-use Rattle.std.specs.declared.io.Error.{Error}
+use Rattle.console.specs.declared.failure.Failure.{Failure}
 use Rattle.std.specs.Io.{StartsWith}
 use Rattle.std.specs.Io.KnownBytes.{Appends, Consumes, Keeps, IsAtEnd}
 use Rattle.std.proofs.KnownBytes.{Appends-trans, Appends-kept, Consumes-trans, Consumes-kept, Consumes-whole}
@@ -27,7 +27,7 @@ put_more a b c l k n m e h fits p q =
 pub put_kept : (a b c : Option (List ℕ)) (l : List ℕ) (k m : ℕ) → m ≡ k → k ≤ length l → Appends a b (take k l) → Keeps b c → (m ≤ length l) × Appends a c (take m l)
 put_kept a b c l k m e h p q = (omega (arith, e, h), subst (Appends a c) (ap (λ j. take j l) (sym e)) (Appends-kept a b c _ p q))
 
-pub writes_same : {A : Type 0} (l m : List ℕ) (was now : Option (List ℕ)) (r : Result A Error) → l ≡ m → Writes l was now r → Writes m was now r
+pub writes_same : {A : Type 0} (l m : List ℕ) (was now : Option (List ℕ)) (r : Result A Failure) → l ≡ m → Writes l was now r → Writes m was now r
 writes_same l m was now r e p = subst (λ t. Writes t was now r) e p
 
 -- one read more, from k on

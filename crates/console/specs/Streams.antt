@@ -1,33 +1,30 @@
 -- What is written for what is read. The bytes that a reader has left and those that a writer holds are known as far as their types tell them
 -- (`remaining` and `contents` of std's `Read` and `Write`); where they are not, nothing is said of them.
-use Rattle.std.specs.Prelude.{◌≡◌, ◌≢◌, ℕ, ◌<◌, ◌≤◌, List, ◌++◌, Option, Some, None, Result, IfSome, IfOk, IfErr, OnOk, length, take, ⊤}
-use Rattle.std.specs.declared.io.Error.{Error}
-use Rattle.std.specs.declared.io.ErrorKind.{ErrorKind}
+use Rattle.std.specs.Prelude.{◌≡◌, ℕ, ◌<◌, ◌≤◌, List, ◌++◌, Option, Some, None, Result, IfSome, IfOk, OnOk, length, take, ⊤}
 use Rattle.std.specs.Io.{StartsWith}
 use Rattle.std.specs.Io.KnownBytes.{Appends, Consumes, IsAtEnd}
-use Rattle.std.specs.IoError.{error_kind}
 use Rattle.session.specs.declared.Session.{Session}
 use Rattle.reactions.specs.declared.Outcome.{Outcome}
 use Rattle.blocks.specs.Input.{text_from}
-
--- a signal that came before any byte did is no failure
-abbrev pub TriedAgain : {A : Type 0} → Result A Error → Type 0
-TriedAgain r = IfErr r (λ e. error_kind e ≢ ErrorKind.Interrupted)
+use Rattle.console.specs.declared.failure.Failure.{Failure}
+use Rattle.console.specs.Failures.{TriedAgain, FailedToRead, FailedToWrite}
 
 -- what a writer got is the start of a text, and at `Ok` the whole of it
-pub record Writes {A : Type 0} (text : List ℕ) (was now : Option (List ℕ)) (r : Result A Error) : Type 0 where
+pub record Writes {A : Type 0} (text : List ℕ) (was now : Option (List ℕ)) (r : Result A Failure) : Type 0 where
   pub part : List ℕ
   pub appended : Appends was now part
   pub start : StartsWith text part
   pub whole : OnOk r (part ≡ text)
+  pub side : FailedToWrite r
   pub again : TriedAgain r
 
 -- a block is filled from its start on, and left short only at the end of the input or where reading fails
-pub record Fills (given left : Option (List ℕ)) (was block : List ℕ) (count : ℕ) (ended : Result ⊤ Error) : Type 0 where
+pub record Fills (given left : Option (List ℕ)) (was block : List ℕ) (count : ℕ) (ended : Result ⊤ Failure) : Type 0 where
   pub size : length block ≡ length was
   pub within : count ≤ length block
   pub taken : Consumes given left (take count block)
   pub at_end : OnOk ended (count < length block → IsAtEnd left)
+  pub side : FailedToRead ended
   pub again : TriedAgain ended
 
 -- the text of the bytes that were left is `part`, and then the text of those that are left now, for the session t
@@ -41,7 +38,7 @@ abbrev pub After : (Outcome → List ℕ) → List ℕ → Session → Option (L
 After line spare s given part (Some t) left = GoesOn line spare s given part t left
 After line spare s given part None left = IfSome given (λ bytes. part ≡ text_from line spare s bytes) × IsAtEnd left
 
-pub record PrintsBlock (line : Outcome → List ℕ) (spare : List ℕ) (s : Session) (given left was now : Option (List ℕ)) (r : Result (Option Session) Error)
+pub record PrintsBlock (line : Outcome → List ℕ) (spare : List ℕ) (s : Session) (given left was now : Option (List ℕ)) (r : Result (Option Session) Failure)
     : Type 0 where
   pub written : List ℕ
   pub appended : Appends was now written
@@ -52,7 +49,7 @@ pub record PrintsBlock (line : Outcome → List ℕ) (spare : List ℕ) (s : Ses
 -- 01: "Program rolltrace reads records from standard input into a fresh session." What is written is always the start of the text of the input, and
 -- at `Ok` the whole of it, and the input is read to its end. `text` is what a program prints for an input. That only a read or a write that failed
 -- leads to `Err` is not said: std's `Read` and `Write` keep no account of failures
-pub record PrintsInput {A : Type 0} (text : List ℕ → List ℕ) (given left was now : Option (List ℕ)) (r : Result A Error) : Type 0 where
+pub record PrintsInput {A : Type 0} (text : List ℕ → List ℕ) (given left was now : Option (List ℕ)) (r : Result A Failure) : Type 0 where
   pub written : List ℕ
   pub appended : Appends was now written
   pub start : IfSome given (λ bytes. StartsWith (text bytes) written)

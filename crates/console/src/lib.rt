@@ -1,19 +1,23 @@
 // Records from a reader, lines to a writer, block by block.
 #![tactic(auto)]
 
-ghost use Rattle.std.specs.Prelude.{◌≡◌, ◌↔◌, ℕ, ◌+◌, ◌*◌, ◌%◌, ◌<◌, ◌≤◌, IfOk, IsTrue, OnErr, length, take, drop};
+mod failure;
+
+ghost use Rattle.std.specs.Prelude.{◌≡◌, ℕ, ◌+◌, ◌*◌, ◌%◌, ◌<◌, ◌≤◌, IfOk, OnErr, length, take, drop};
 ghost use Rattle.std.specs.Io.KnownBytes.{Keeps, Consumes, IsAtEnd};
-ghost use Rattle.std.specs.IoError.{error_kind};
 ghost use Rattle.session.specs.Machine.{fresh_session};
 ghost use Rattle.session.specs.Records.{records_of};
 ghost use Rattle.blocks.specs.Blocks.{lines_of, session_past};
 ghost use Rattle.blocks.specs.Input.{text_from};
 ghost use Rattle.console.specs.Streams.{Writes, Fills, PrintsBlock, PrintsInput};
 
+pub use crate::failure::Failure;
+use crate::failure::{too_many_turns, wants_another_try};
 use blocks::Show;
 use session::Session;
 use std::io;
 use std::io::{Error, ErrorKind, Read, Write};
+use std::time::Clock;
 
 // One read into the block from `at` on.
 fn read_at<R: Read>(reader: &mut R, block: &mut [u8], at: usize) -> io::Result<usize>
@@ -29,9 +33,13 @@ fn read_at<R: Read>(reader: &mut R, block: &mut [u8], at: usize) -> io::Result<u
 }
 
 // How many bytes of a block were filled, and how that ended. A pipe gives its bytes in pieces of any length: only the end of the input, or
-// a failure, leaves a block short. Nothing says that a signal comes only so often, so the loop counts its turns; the count of bytes is where
-// the next ones go.
-fn fill<R: Read>(reader: &mut R, block: &mut [u8]) -> (usize, io::Result<()>)
+// a failure, leaves a block short. Nothing says that a try more is asked for only so often, so the loop counts its turns; the count of bytes
+// is where the next ones go.
+fn fill<R: Read, C: Clock>(
+    reader: &mut R,
+    block: &mut [u8],
+    clock: &C,
+) -> (usize, Result<(), Failure>)
     ensures { Fills (R.remaining reader.old) (R.remaining reader.new) block.old block.new result.0 result.1 }
 {
     let mut count = 0;
@@ -43,30 +51,17 @@ fn fill<R: Read>(reader: &mut R, block: &mut [u8]) -> (usize, io::Result<()>)
             Ok(0) => return (count, Ok(())),
             Ok(n) => count += n,
             Err(e) => {
-                if !is_signal(&e) {
-                    return (count, Err(e));
+                if !wants_another_try(clock, &e) {
+                    return (count, Err(Failure::Read(e)));
                 }
             }
         }
     }
-    (count, Err(too_many_turns()))
-}
-
-// A signal came before any byte was read or written.
-fn is_signal(e: &Error) -> bool
-    ensures { IsTrue result ↔ (error_kind e.now ≡ ErrorKind.Interrupted) }
-{
-    e.kind() == ErrorKind::Interrupted
-}
-
-fn too_many_turns() -> Error
-    ensures { error_kind result ≡ ErrorKind.TimedOut }
-{
-    Error::new(ErrorKind::TimedOut, "gave up after 2^64 turns")
+    (count, Err(Failure::Read(too_many_turns())))
 }
 
 // std's `write_all` does not say what was written where it fails.
-fn put<W: Write>(writer: &mut W, text: &[u8]) -> io::Result<()>
+fn put<W: Write, C: Clock>(writer: &mut W, text: &[u8], clock: &C) -> Result<(), Failure>
     ensures { Writes text.now (W.contents writer.old) (W.contents writer.new) result }
 {
     let mut done = 0;
@@ -75,44 +70,49 @@ fn put<W: Write>(writer: &mut W, text: &[u8]) -> io::Result<()>
             return Ok(());
         }
         match writer.write(&text[done..]) {
-            Ok(0) => return Err(Error::new(ErrorKind::WriteZero, "failed to write whole buffer")),
+            Ok(0) => return Err(Failure::Write(Error::new(
+                ErrorKind::WriteZero,
+                "failed to write whole buffer",
+            ))),
             Ok(n) => done += n,
             Err(e) => {
-                if !is_signal(&e) {
-                    return Err(e);
+                if !wants_another_try(clock, &e) {
+                    return Err(Failure::Write(e));
                 }
             }
         }
     }
-    Err(too_many_turns())
+    Err(Failure::Write(too_many_turns()))
 }
 
 // The lines of a block's whole records, and the session after them.
-fn put_lines<S: Show, W: Write>(
+fn put_lines<S: Show, W: Write, C: Clock>(
     writer: &mut W,
     s: Session,
     bytes: &[u8],
     text: &mut [u8],
-) -> io::Result<Session>
+    clock: &C,
+) -> Result<Session, Failure>
     requires { 4 * length bytes.now ≤ length text.old }
     ensures size { length text.new ≡ length text.old }
     ensures lines { Writes (lines_of S.line_of s (records_of bytes.now)) (W.contents writer.old) (W.contents writer.new) result }
     ensures session { IfOk result (λ t. t ≡ session_past s (records_of bytes.now)) }
 {
     let p = blocks::print::<S>(s, bytes, text);
-    put(writer, &text[..p.count])?;
+    put(writer, &text[..p.count], clock)?;
     Ok(p.session)
 }
 
 // The session after a block, if there may be another block: a short one is the last. Where reading fails, the records that came before
 // are printed first.
-fn print_block<S: Show, R: Read, W: Write>(
+fn print_block<S: Show, R: Read, W: Write, C: Clock>(
     reader: &mut R,
     writer: &mut W,
     s: Session,
     block: &mut [u8],
     text: &mut [u8],
-) -> io::Result<Option<Session>>
+    clock: &C,
+) -> Result<Option<Session>, Failure>
     requires eights { length block.old % 8 ≡ 0 }
     requires some { 0 < length block.old }
     requires room { 4 * length block.old ≤ length text.old }
@@ -120,23 +120,24 @@ fn print_block<S: Show, R: Read, W: Write>(
     ensures text { length text.new ≡ length text.old }
     ensures prints { PrintsBlock S.line_of S.spare s (R.remaining reader.old) (R.remaining reader.new) (W.contents writer.old) (W.contents writer.new) result }
 {
-    let (count, ended) = fill(reader, block);
-    let next = put_lines::<S, W>(writer, s, &block[..count], text)?;
+    let (count, ended) = fill(reader, block, clock);
+    let next = put_lines::<S, W, C>(writer, s, &block[..count], text, clock)?;
     ended?;
     if count == block.len() {
         return Ok(Some(next));
     }
-    put(writer, blocks::after_lines::<S>(&block[..count]))?;
+    put(writer, blocks::after_lines::<S>(&block[..count]), clock)?;
     Ok(None)
 }
 
 // Nothing says that the input ends, so the loop counts its turns.
-fn print_blocks<S: Show, R: Read, W: Write>(
+fn print_blocks<S: Show, R: Read, W: Write, C: Clock>(
     reader: &mut R,
     writer: &mut W,
     block: &mut [u8],
     text: &mut [u8],
-) -> io::Result<()>
+    clock: &C,
+) -> Result<(), Failure>
     requires eights { length block.old % 8 ≡ 0 }
     requires some { 0 < length block.old }
     requires room { 4 * length block.old ≤ length text.old }
@@ -144,19 +145,23 @@ fn print_blocks<S: Show, R: Read, W: Write>(
 {
     let mut s = driver::fresh();
     for _ in 0..u64::MAX {
-        match print_block::<S, R, W>(reader, writer, s, block, text)? {
+        match print_block::<S, R, W, C>(reader, writer, s, block, text, clock)? {
             Some(next) => s = next,
             None => return Ok(()),
         }
     }
-    Err(too_many_turns())
+    Err(Failure::Read(too_many_turns()))
 }
 
 // A block is a quarter of the text, so that the lines of its records fit. Arrays of one size, since memory is fixed.
-pub fn run<S: Show, R: Read, W: Write>(reader: &mut R, writer: &mut W) -> io::Result<()>
+pub fn run<S: Show, R: Read, W: Write, C: Clock>(
+    reader: &mut R,
+    writer: &mut W,
+    clock: &C,
+) -> Result<(), Failure>
     ensures { PrintsInput (text_from S.line_of S.spare fresh_session) (R.remaining reader.old) (R.remaining reader.new) (W.contents writer.old) (W.contents writer.new) result }
 {
     let mut block = [0u8; 16384];
     let mut text = [0u8; 65536];
-    print_blocks::<S, R, W>(reader, writer, &mut block, &mut text)
+    print_blocks::<S, R, W, C>(reader, writer, &mut block, &mut text, clock)
 }

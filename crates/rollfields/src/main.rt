@@ -6,17 +6,35 @@ ghost use Rattle.blocks.specs.Input.{rollfields_text};
 ghost use Rattle.console.specs.Streams.{PrintsInput};
 
 use blocks::Fields;
+use console::Failure;
+use std::env;
 use std::io;
 use std::io::{Read, Write};
+use std::process::ExitCode;
+use std::time::Clock;
 
 #[tactic(auto, unfolding(blocks::specs::Input::rollfields_text))]
-fn print<R: Read, W: Write>(reader: &mut R, writer: &mut W) -> io::Result<()>
+fn print<R: Read, W: Write, C: Clock>(reader: &mut R, writer: &mut W, clock: &C) -> Result<(), Failure>
     ensures { PrintsInput rollfields_text (R.remaining reader.old) (R.remaining reader.new) (W.contents writer.old) (W.contents writer.new) result }
 {
-    console::run::<Fields, R, W>(reader, writer)
+    console::run::<Fields, R, W, C>(reader, writer, clock)
 }
 
-// No contract says what standard input gives or what standard output takes.
-fn main(rt: HostRuntime) -> io::Result<()> {
-    print(&mut rt.reader(), &mut io::writer(&rt))
+// No contract says what standard input gives or what standard output takes. Where standard error takes nothing, the status is all that is left.
+fn main(rt: HostRuntime) -> ExitCode {
+    let alone = match env::args(&rt) {
+        Ok(args) => args.count() <= 1,
+        Err(_) => false,
+    };
+    if !alone {
+        let _ = eprintln!(rt; "usage: rollfields < RECORDS > LINES");
+        return ExitCode::from(2);
+    }
+    match print(&mut rt.reader(), &mut io::writer(&rt), &rt) {
+        Ok(()) => ExitCode::SUCCESS,
+        Err(e) => {
+            let _ = eprintln!(rt; "rollfields: {e}");
+            ExitCode::FAILURE
+        }
+    }
 }
