@@ -48,8 +48,8 @@ abbrev pub clean_from : ℕ → ℕ → ℕ
 clean_from zero n = n
 clean_from (suc e) n = 0
 
--- SCOPE 4.2: the detector wait is met when 0x83 is not 0, the status wait when one of the low three bits of 0x13 is set, the start wait when bit 0 of
--- 0x00 is clear
+-- SCOPE 4.2: the detector wait is met when 0x83 is not 0, the status wait when one of the low three bits of 0x13 is set,
+-- the start wait when bit 0 of 0x00 is clear
 pub data Condition : Type 0 where
   detector_ready status_ready started : Condition
 

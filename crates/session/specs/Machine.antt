@@ -150,8 +150,8 @@ first_transfer_out (op ∷ ops) c = send_of op c
 abbrev pub outstanding : Session → Transfer
 outstanding s = first_transfer_out (drop s.step (ops_of (program_of s.code))) (context_of s)
 
--- SCOPE 9.2, answer 15 while a call waits: code or arguments that 13 would refuse, call 1 marked up or another not up, a step that is not the call's,
--- idle reads at or over the wait's limit or not 0 outside a wait, transfers 0 or over the ceiling
+-- SCOPE 9.2, answer 15 while a call waits: code or arguments that 13 would refuse, call 1 marked up or another not up, a step that is not the
+-- call's, idle reads at or over the wait's limit or not 0 outside a wait, transfers 0 or over the ceiling
 abbrev pub idle_wrong : ℕ → List Op → ℕ → Bool
 idle_wrong code [] i = true
 idle_wrong code (write reg bytes len over after ∷ ops) i = not (eqb i 0)

@@ -68,7 +68,7 @@ pub struct ReplyRecord {
     pub data: [u8; 6],
 }
 
-// The answers 0 to 15 of SCOPE 9.1, in the names of lib.rs's Error where it has one. The first nine end a call, the others refuse a record or a list.
+// The answers of SCOPE 9.1, 0 to 15, in lib.rs's names where its Error has one. The first nine end a call, the others refuse a record or a list.
 // Places and failure codes are numbers here: functions that print an answer take every one.
 #[derive(Clone, Copy)]
 pub enum Answer {
