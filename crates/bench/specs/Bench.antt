@@ -1,4 +1,4 @@
--- 01, "Bench values": the lines marked P, in their order, as one list about the definitions; and the values of the session.
+-- SCOPE 11.1, in its order, as one list about the definitions; and the values of the session.
 use Rattle.std.specs.Prelude.{◌≡◌, true, List, [], ◌∷◌, ℕ, Ok, Err}
 use Rattle.clock.specs.declared.Place.{Place}
 use Rattle.clock.specs.Places.{place_number}
@@ -10,11 +10,11 @@ use Rattle.timing.specs.Registers.{registers_of}
 use Rattle.budget.specs.Budget.{measurement_timing_budget, final_range_word}
 use Rattle.session.specs.Bench.{SessionValues}
 
--- "map FF six times"
+-- a map of six bytes FF
 abbrev pub all_good : List ℕ
 all_good = 0xFF ∷ 0xFF ∷ 0xFF ∷ 0xFF ∷ 0xFF ∷ 0xFF ∷ []
 
--- "budget reads, in their order, 0xE8, 0x0096, 0x01FE, 0x06, 0x25, 0x04"
+-- the budget reads 0xE8, 0x0096, 0x01FE, 0x06, 0x25, 0x04
 abbrev pub reads : TimingRegisters
 reads = registers_of (0xE8 ∷ 0x00 ∷ 0x96 ∷ 0x01 ∷ 0xFE ∷ 0x06 ∷ 0x25 ∷ 0x04 ∷ [])
 
@@ -36,5 +36,5 @@ pub record BenchValues : Type 0 where
   pub map_0 : selected all_good 0 true ≡ 0x00 ∷ 0x00 ∷ 0x00 ∷ 0x00 ∷ 0x00 ∷ 0x00 ∷ []
   pub call_15 : measurement_timing_budget reads ≡ Ok (record { 0 = 31326 })
   pub call_9 : final_range_word reads (record { 0 = 33000 }) DssTerm.Once ≡ Ok 0x0292
-  -- the numbers and values of the answers, a fresh session's zeros, and the run that 01 prints
+  -- the numbers and values of the answers, a fresh session's zeros, and the run of SCOPE 10.1
   pub session : SessionValues

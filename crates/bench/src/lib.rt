@@ -1,2 +1,2 @@
-// The bench values of 01 that are proved: no code, one list in specs/ and its proof.
+// The bench values that are proved (SCOPE 11.1): no code, one list in specs/ and its proof.
 #![tactic(auto)]

@@ -1,5 +1,4 @@
-// The bench values of 01 that are run: the numbers of calls 14, 10 and 11. What stands in `stdout`
-// is 01's.
+// The bench values that are run (SCOPE 11.2): the numbers of calls 14, 10 and 11. `stdout` has what that section says.
 #![tactic(auto)]
 
 use std::io;

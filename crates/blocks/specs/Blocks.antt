@@ -1,4 +1,4 @@
--- The lines of records, one after the other, as a program prints them. 01: "It runs the whole records block by block".
+-- The lines of records, one after the other, as a program prints them, block by block (SCOPE 10.1).
 use Rattle.std.specs.Prelude.{◌≡◌, List, [], ◌∷◌, ◌++◌, ℕ, ◌+◌, ◌*◌, ◌≤◌, ◌<◌, length, drop}
 use Rattle.session.specs.declared.Session.{Session}
 use Rattle.session.specs.Records.{Record, records_of, step_def}

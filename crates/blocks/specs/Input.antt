@@ -1,5 +1,5 @@
 -- What is printed for a whole input, from its first byte to its last.
--- 01: "It runs the whole records block by block; spare bytes at the end print A 14 0 0 after their lines."
+-- SCOPE 10.1: first the lines of the whole records, and then, if bytes are spare, A 14 0 0.
 use Rattle.std.specs.Prelude.{cond, List, [], ◌++◌, ℕ}
 use Rattle.session.specs.declared.Answer.{Answer}
 use Rattle.session.specs.declared.Session.{Session}
@@ -10,7 +10,7 @@ use Rattle.reactions.specs.declared.Outcome.{Outcome}
 use Rattle.lines.specs.Lines.{answer_line, fields_line, outcome_line}
 use Rattle.blocks.specs.Blocks.{lines_of}
 
--- 01: "spare bytes at the end print A 14 0 0": the line of answer 14
+-- A 14 0 0: the line of answer 14
 unfoldable pub spare_line : List ℕ
 spare_line = answer_line (number_of Answer.SpareBytes) 0 0
 
@@ -22,10 +22,10 @@ after_lines spare bytes = cond (is_whole bytes) [] spare
 unfoldable pub text_from : (Outcome → List ℕ) → List ℕ → Session → List ℕ → List ℕ
 text_from line spare s bytes = lines_of line s (records_of bytes) ++ after_lines spare bytes
 
--- 01: "Program rolltrace reads records from standard input into a fresh session." This is what it prints
+-- SCOPE 10.1: what rolltrace prints for the records that it reads into a fresh session
 unfoldable pub rolltrace_text : List ℕ → List ℕ
 rolltrace_text bytes = text_from outcome_line spare_line fresh_session bytes
 
--- what rollfields prints: the driver's fields after each record, and nothing for spare bytes
+-- SCOPE 10.2: what rollfields prints: the driver's fields after each record, and nothing for spare bytes
 unfoldable pub rollfields_text : List ℕ → List ℕ
 rollfields_text bytes = text_from (λ o. fields_line o.session.driver) [] fresh_session bytes

@@ -10,8 +10,8 @@ use Rattle.lines.specs.Lines.{transfer_line, answer_line, fields_line, value_of}
 use Rattle.blocks.specs.Blocks.{lines_of, session_past}
 use Rattle.blocks.specs.Input.{spare_line, text_from, rolltrace_text, rollfields_text}
 
--- 01: "It runs the whole records block by block". Where an input is cut after whole records, its text is the lines before the cut, and then the
--- text of what comes after it, from the session that the records before the cut left
+-- SCOPE 10.1: records are run block by block. Where an input is cut after whole records, its text is the lines before the cut, and then the text of
+-- what comes after it, from the session that the records before the cut left
 pub record BlocksJoin (line : Outcome → List ℕ) (spare : List ℕ) : Type 0 where
   pub lines : (s : Session) (a b : List ℕ) → length a % 8 ≡ 0
       → lines_of line s (records_of (a ++ b)) ≡ lines_of line s (records_of a) ++ lines_of line (session_past s (records_of a)) (records_of b)
@@ -19,7 +19,7 @@ pub record BlocksJoin (line : Outcome → List ℕ) (spare : List ℕ) : Type 0 
   pub text : (s : Session) (a b : List ℕ) → length a % 8 ≡ 0
       → text_from line spare s (a ++ b) ≡ lines_of line s (records_of a) ++ text_from line spare (session_past s (records_of a)) b
 
--- the line of what a record got. 01: "Answer: A, answer, value, call's transfers (0 if refused)."
+-- the line of what a record got (SCOPE 10.1)
 unfoldable pub got_line : Got → List ℕ
 got_line (transfer t) = transfer_line t
 got_line (answer x n) = answer_line (number_of x) (value_of x) n

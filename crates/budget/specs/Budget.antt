@@ -21,11 +21,11 @@ budget_after None r = Ok (budget_sum r)
 unfoldable pub measurement_timing_budget : TimingRegisters → Result Microseconds Place
 measurement_timing_budget r = budget_after (first_place r 6) r
 
--- 01: "over 65,535 is place 9"
+-- SCOPE 5.5: above 65,535 is place 9
 unfoldable pub word_of_sum : ℕ → Result ℕ NoWord
 word_of_sum n = cond (ltb 65535 n) (Err (NoWord.Panic Place.FinalTimeout)) (Ok (encoded_timeout (record { 0 = n })))
 
--- 01: "Clocks are cut to 16 bits, then, while pre-range is on, pre is added"
+-- SCOPE 5.5: the clocks are cut to 16 bits, and then, while pre-range is on, its clocks are added
 abbrev pub with_pre : WideMclks → Mclks → ℕ
 with_pre clocks pre = (cut_mclks clocks).0 + pre.0
 
@@ -33,7 +33,7 @@ abbrev pub word_of_clocks : Result WideMclks Place → TimingRegisters → Resul
 word_of_clocks (Err p) r = Err (NoWord.Panic p)
 word_of_clocks (Ok n) r = word_of_sum (with_pre n (pre_share r))
 
--- 01: "call 9, no time left for final range" is answered 1, before places 7 to 9
+-- SCOPE 5.5: no time left for the final range comes before places 7 to 9
 unfoldable pub word_within : TimingRegisters → Microseconds → Microseconds → Result ℕ NoWord
 word_within r budget used =
     cond (ltb budget.0 used.0) (Err NoWord.NoTime)

@@ -7,7 +7,7 @@ use Rattle.timing.specs.Registers.{sequence_step_enables, when_on}
 use Rattle.timing.specs.Timeouts.{time_in, msrc_time, pre_time, final_time}
 use Rattle.budget.specs.declared.DssTerm.{DssTerm}
 
--- 01: "Call 15 uses start 1910 and 2 × (MSRC + 690) for DSS; call 9 uses start 1320 and 2 × MSRC + 690."
+-- SCOPE 5.4: for DSS call 15 counts 2 × (MSRC + 690), call 9 counts 2 × MSRC + 690
 abbrev pub dss_of : DssTerm → ℕ → ℕ
 dss_of DssTerm.Twice msrc = 2 * (msrc + 690)
 dss_of DssTerm.Once msrc = 2 * msrc + 690
@@ -26,13 +26,13 @@ step_sum on start dss msrc pre last =
     + when_on on.prerange (pre + 660)
     + when_on on.finalrange last
 
--- call 15's sum: "start 1910", the final range's time, and DSS's overhead twice
+-- SCOPE 5.4, call 15: start 1910, the final range's time, and DSS's overhead twice
 unfoldable pub budget_sum : TimingRegisters → Microseconds
 budget_sum r = record {
   0 = step_sum (sequence_step_enables r.sequence) 1910 DssTerm.Twice (time_in (msrc_time r)).0 (time_in (pre_time r)).0 ((time_in (final_time r)).0 + 550);
 }
 
--- what call 9 counts beside the final range's time: "start 1320". lib.rs: use_budget_microseconds
+-- SCOPE 5.4, call 9, which counts all but the final range's time: start 1320. lib.rs: use_budget_microseconds
 unfoldable pub used_sum : TimingRegisters → DssTerm → Microseconds
 used_sum r dss = record {
   0 = step_sum (sequence_step_enables r.sequence) 1320 dss (time_in (msrc_time r)).0 (time_in (pre_time r)).0 550;

@@ -4,7 +4,7 @@ use Rattle.session.specs.declared.Instruction.{Instruction}
 use Rattle.session.specs.Calls.{Program, nothing, with_address_call, who_am_i_call, set_address_call, start_continuous_call, stop_continuous_call, read_range_mm_call, read_range_continuous_call, read_range_single_call, set_budget_call, set_thresholds_call, get_thresholds_call, set_gpio_config_call, clear_interrupt_status_call, set_signal_rate_limit_call, get_budget_call, program_of}
 use Rattle.calls.specs.declared.Call.{Call}
 
--- 01, "Calls": by code
+-- SCOPE 5.1: the calls by code
 unfoldable pub calls : List Call
 calls =
     Call.Nothing ∷ Call.WithAddress ∷ Call.WhoAmI ∷ Call.SetAddress ∷ Call.StartContinuous ∷ Call.StopContinuous ∷ Call.ReadRangeMm

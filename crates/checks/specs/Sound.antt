@@ -42,7 +42,7 @@ kind_at s = (shape_of (op_of (instruction_at s.code s.step))).kind
 unfoldable pub idle_at_step : ℕ → ℕ → Kind → ℕ → Bool
 idle_at_step code step kind idle = leb (steps_in code) step || leb (limit_of code kind) idle
 
--- 01's answer 15, where a session stands at an instruction of a kind
+-- answer 15 (SCOPE 9.2), where a session stands at an instruction of a kind
 unfoldable pub malformed_at : Kind → Session → Bool
 malformed_at kind s =
     not (arguments_ok s.code s.a s.b)

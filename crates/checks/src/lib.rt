@@ -103,8 +103,8 @@ fn malformed_at(s: Session, kind: Kind) -> bool
         || ceiling < s.transfers
 }
 
-// 01's answer 15: the session says that a call waits, and is no session that waits in it. Whoever has looked up the instruction that it stands
-// at gives its kind.
+// Answer 15 (SCOPE 9.2): the session says that a call waits, and is no session that waits in it. Whoever has looked up the instruction that
+// it stands at gives its kind.
 pub fn ill_formed_at(s: Session, kind: Kind) -> bool
     ensures { result ≡ ill_formed_at kind s }
 {

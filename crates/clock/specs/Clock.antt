@@ -1,5 +1,5 @@
--- 01, "Clock arithmetic", in its order.
--- Where the Rust, built with overflow checks, panics, the answer is the place that 01 gives to that arithmetic.
+-- SCOPE 3.1, row by row.
+-- Where the Rust, built with overflow checks, panics, the answer is the place of that arithmetic (SCOPE 9.4).
 use Rattle.std.specs.Prelude.{ℕ, zero, suc, ◌+◌, ◌-◌, ◌*◌, ◌/◌, ◌%◌, ◌^◌, cond, ◌==◌, nat_le, nat_lt, Result, Ok, Err}
 use Rattle.clock.specs.declared.Mclks.{Mclks}
 use Rattle.clock.specs.declared.WideMclks.{WideMclks}
@@ -8,7 +8,7 @@ use Rattle.clock.specs.declared.Microseconds.{Microseconds}
 use Rattle.clock.specs.declared.Nanoseconds.{Nanoseconds}
 use Rattle.clock.specs.declared.Place.{Place}
 
--- x << k in w bits. 01: "Bits that leave the top of a byte or word are dropped."
+-- x << k in w bits: what is shifted out of a byte or a word is lost (SCOPE 3.1)
 abbrev pub shifted : ℕ → ℕ → ℕ → ℕ
 shifted w x k = x * 2 ^ k % 2 ^ w
 
@@ -17,7 +17,7 @@ unfoldable pub doubled_in : ℕ → ℕ → ℕ → ℕ
 doubled_in w x zero = x
 doubled_in w x (suc k) = (doubled_in w x k + doubled_in w x k) % 2 ^ w
 
--- 01: "low byte shifted left by the high byte, plus 1. High byte 16 or more: place 2." lib.rs: decode_timeout
+-- low byte shifted left by the high byte, plus 1; a high byte of 16 or more is place 2. lib.rs: decode_timeout
 unfoldable pub decoded_timeout : ℕ → Result Mclks Place
 decoded_timeout w =
     cond (nat_le 16 (w / 256)) (Err Place.TimeoutShift)
@@ -32,24 +32,23 @@ halved_in (suc f) n = cond (nat_le n 255) n (256 + halved_in f (n / 2))
 unfoldable pub halved : ℕ → ℕ
 halved n = halved_in 8 n
 
--- 01: "0 gives 0. Else take t − 1; the exponent is found by halving [..] until it is at most 255; answer exponent × 256 + what is left."
--- lib.rs: encode_timeout
+-- 0 gives 0; else t − 1 is halved until it is 255 or less: the number of halvings times 256, plus what is left. lib.rs: encode_timeout
 unfoldable pub encoded_timeout : Mclks → ℕ
 encoded_timeout t = cond (t.0 == 0) 0 (halved (t.0 - 1))
 
--- 01: "(r + 1) doubled in a byte; r = 255: place 4." lib.rs: decode_vcsel_period
+-- the register plus 1, doubled in a byte; 255 is place 4. lib.rs: decode_vcsel_period
 unfoldable pub decoded_vcsel_period : ℕ → Result Pclks Place
 decoded_vcsel_period r = cond (r == 255) (Err Place.VcselPeriod) (Ok (record { 0 = shifted 8 (r + 1) 1 }))
 
--- 01: "half, minus 1; periods 0 and 1: place 4." lib.rs: encode_vcsel_period
+-- half, minus 1; periods 0 and 1 are place 4. lib.rs: encode_vcsel_period, which is never called (SCOPE 2.1)
 unfoldable pub encoded_vcsel_period : Pclks → Result ℕ Place
 encoded_vcsel_period p = cond (nat_le p.0 1) (Err Place.VcselPeriod) (Ok (p.0 / 2 - 1))
 
--- 01: "(2304 × period × 1655 + 500) / 1000, cut." lib.rs: calc_macro_period
+-- (2304 × period × 1655 + 500) / 1000. lib.rs: calc_macro_period
 abbrev pub macro_period : Pclks → Nanoseconds
 macro_period p = record { 0 = (2304 * p.0 * 1655 + 500) / 1000 }
 
--- 01: "(clocks × macro + macro / 2) / 1000", and "A sum or product above 4,294,967,295: place 6".
+-- (clocks × macro period + macro period / 2) / 1000; a product or sum above 4,294,967,295 is place 6.
 -- The product is at most the sum, so one test serves both.
 unfoldable pub microseconds_of : Mclks → Nanoseconds → Result Microseconds Place
 microseconds_of t ns =
@@ -60,7 +59,7 @@ microseconds_of t ns =
 abbrev pub mclks_to_microseconds : Mclks → Pclks → Result Microseconds Place
 mclks_to_microseconds t p = microseconds_of t (macro_period p)
 
--- 01: "(µs × 1000 + macro / 2) / macro", "place 7 to clocks; macro 0 to clocks: place 8, after 7"
+-- (microseconds × 1000 + macro period / 2) / macro period; first place 7, then place 8 for a macro period of 0
 unfoldable pub mclks_of : Microseconds → Nanoseconds → Result WideMclks Place
 mclks_of t ns =
     let sum = t.0 * 1000 + ns.0 / 2 in
@@ -71,6 +70,6 @@ mclks_of t ns =
 abbrev pub microseconds_to_mclks : Microseconds → Pclks → Result WideMclks Place
 microseconds_to_mclks t p = mclks_of t (macro_period p)
 
--- 01: "Clocks are cut to 16 bits". lib.rs: the `as u16` of set_measurement_timing_budget
+-- SCOPE 5.5: the clocks are cut to 16 bits. lib.rs: the `as u16` of set_measurement_timing_budget
 abbrev pub cut_mclks : WideMclks → Mclks
 cut_mclks t = record { 0 = t.0 % 65536 }

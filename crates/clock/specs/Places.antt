@@ -2,7 +2,7 @@
 use Rattle.std.specs.Prelude.{ℕ}
 use Rattle.clock.specs.declared.Place.{Place}
 
--- 01's number of each
+-- the number of each (SCOPE 9.4)
 abbrev pub place_number : Place → ℕ
 place_number Place.TimedPeriod = 1
 place_number Place.TimeoutShift = 2

@@ -46,7 +46,7 @@ pub record PrintsBlock (line : Outcome → List ℕ) (spare : List ℕ) (s : Ses
   pub after : IfOk r (λ o. After line spare s given written o left)
   pub again : TriedAgain r
 
--- 01: "Program rolltrace reads records from standard input into a fresh session." What is written is always the start of the text of the input, and
+-- SCOPE 10.1: the whole records, whatever the pieces, and then what comes after them. What is written is always the start of the input's text, and
 -- at `Ok` the whole of it, and the input is read to its end. `text` is what a program prints for an input. That only a read or a write that failed
 -- leads to `Err` is not said: std's `Read` and `Write` keep no account of failures
 pub record PrintsInput {A : Type 0} (text : List ℕ → List ℕ) (given left was now : Option (List ℕ)) (r : Result A Failure) : Type 0 where

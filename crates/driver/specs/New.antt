@@ -1,4 +1,4 @@
--- `new` of lib.rs. 01 has it as call 1 at the address 0x29.
+-- `new` of lib.rs. SCOPE 2.1: it is call 1 at the address 0x29.
 use Rattle.std.specs.Prelude.{◌≡◌, List}
 use Rattle.session.specs.declared.Session.{Session}
 use Rattle.session.specs.Calls.{default_address}

@@ -154,7 +154,7 @@ fn range_result(s: Session) -> Result<Finished, RangeFailure>
     }
 }
 
-// Both thresholds, by 01's formula: low × 65536 + high.
+// Both thresholds (SCOPE 5.1, call 11): low × 65536 + high.
 #[tactic(auto, unfolding(crate::specs::Ends::thresholds_of))]
 fn thresholds(low: u16, high: u16) -> u32
     ensures { result ≡ thresholds_of low high }

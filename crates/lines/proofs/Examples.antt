@@ -5,12 +5,12 @@ use mathlib.Core.List.{[], ◌∷◌}
 use Rattle.session.specs.Bus.{transfer_of}
 use Rattle.lines.specs.Lines.{hex_digit, digits, transfer_line, answer_line, fields_line}
 
--- 01: "T 29 C0 1"
+-- SCOPE 10.1: T 29 C0 1
 pub transfer_29 : transfer_line (transfer_of 0x29 (0xC0 ∷ []) 1) ≡ 84 ∷ 32 ∷ 50 ∷ 57 ∷ 32 ∷ 67 ∷ 48 ∷ 32 ∷ 49 ∷ 10 ∷ []
 unfolding transfer_line hex_digit digits
 transfer_29 = refl
 
--- 01: "A 2 0 1"
+-- SCOPE 10.1: A 2 0 1
 pub answer_2 : answer_line 2 0 1 ≡ 65 ∷ 32 ∷ 50 ∷ 32 ∷ 48 ∷ 32 ∷ 49 ∷ 10 ∷ []
 unfolding answer_line digits
 answer_2 = refl

@@ -1,5 +1,5 @@
 -- The lines of text that transfers, answers and the driver's fields are printed as: lists of ASCII bytes.
--- 01, the end of "Records and the list run".
+-- SCOPE 10: the lines of rolltrace and of rollfields.
 use Rattle.std.specs.Prelude.{Bool, cond, List, [], ◌∷◌, ◌++◌, ℕ, zero, suc, ◌+◌, ◌/◌, ◌%◌, ltb, get_or}
 use Rattle.session.specs.declared.Answer.{Answer}
 use Rattle.session.specs.declared.Driver.{Driver}
@@ -23,7 +23,7 @@ letter_f = 70
 abbrev pub letter_t : ℕ
 letter_t = 84
 
--- 01: "the pairs in T lines are hexadecimal": 0 to 9 are bytes 48 to 57, A to F bytes 65 to 70
+-- SCOPE 10.1: pairs of hexadecimal digits in capitals: 0 to 9 are bytes 48 to 57, A to F bytes 65 to 70
 unfoldable pub hex_digit : ℕ → ℕ
 hex_digit n = cond (ltb n 10) (48 + n) (55 + n)
 
@@ -31,7 +31,7 @@ hex_digit n = cond (ltb n 10) (48 + n) (55 + n)
 abbrev pub hex_pair : ℕ → List ℕ
 hex_pair b = hex_digit (b / 16) ∷ hex_digit (b % 16) ∷ []
 
--- 01: "written bytes run together"
+-- SCOPE 10.1: the written bytes run together
 abbrev pub hex_pairs : List ℕ → List ℕ
 hex_pairs [] = []
 hex_pairs (b ∷ bs) = hex_pair b ++ hex_pairs bs
@@ -41,7 +41,7 @@ unfoldable pub digits : ℕ → ℕ → List ℕ
 digits zero n = (48 + n) ∷ []
 digits (suc k) n = cond (ltb n 10) ((48 + n) ∷ []) (digits k (n / 10) ++ ((48 + n % 10) ∷ []))
 
--- a number below 10,000,000,000 as in 01's "A 2 0 1": decimal, with no zeros in front
+-- a number below 10,000,000,000, as in A 2 0 1 of SCOPE 10.1: decimal, with no zeros in front
 abbrev pub decimal : ℕ → List ℕ
 decimal n = digits 9 n
 
@@ -53,18 +53,18 @@ fields (x ∷ xs) = space ∷ (x ++ fields xs)
 abbrev pub line : ℕ → List (List ℕ) → List ℕ
 line letter xs = letter ∷ fields xs
 
--- 01: "Transfer: T, address, written bytes run together, read length."
+-- SCOPE 10.1: T, address, the written bytes, read length
 unfoldable pub transfer_line : Transfer → List ℕ
 transfer_line t = line letter_t (hex_pair t.address ∷ hex_pairs (bytes_of t) ∷ decimal t.reads ∷ [])
 
--- 01: "Answer: A, answer, value, call's transfers (0 if refused)."
+-- SCOPE 10.1: A, number, value, the call's transfers
 unfoldable pub answer_line : ℕ → ℕ → ℕ → List ℕ
 answer_line number value transfers = line letter_a (decimal number ∷ decimal value ∷ decimal transfers ∷ [])
 
 abbrev pub flag : Bool → ℕ
 flag up = cond up 1 0
 
--- the driver's fields: F, up, address, stop byte, budget
+-- SCOPE 10.2: the driver's fields: F, up, address, stop byte, budget
 unfoldable pub fields_line : Driver → List ℕ
 fields_line d =
     line letter_f (decimal (flag d.up) ∷ decimal d.address ∷ decimal d.stop ∷ decimal d.budget ∷ [])
@@ -73,7 +73,7 @@ fields_line d =
 abbrev pub value_of : Answer → ℕ
 value_of x = get_or (values_of x) 0 0
 
--- 01: "call's transfers (0 if refused)"; the value of a refusal is 0
+-- SCOPE 10.1: a refusal has 0 transfers; its value is 0 too
 unfoldable pub given_line : Given → List ℕ
 given_line (Given.Sent t) = transfer_line t
 given_line (Given.Answered x n) = answer_line (number_of x) (value_of x) n

@@ -1,4 +1,4 @@
--- The number of call 14. 01: "In 0.0..=511.99 it writes limit × 128 cut to a whole number; NaN and all else give 1."
+-- The number of call 14. SCOPE 5.11: in 0.0..=511.99 the limit times 128, cut to a whole number; NaN and everything outside have none.
 use Rattle.std.specs.Prelude.{Bool, false, ◌&&◌, cond, ℕ, ◌*◌, ◌/◌, Float, Option, None, Some}
 use Rattle.std.specs.Float.{binary32}
 use Rattle.std.specs.Float.Ieee.{round, of_bits, le, mul, to_unsigned}
@@ -12,11 +12,11 @@ literal a b = round binary32 false a b
 unfoldable pub in_range : Float → Bool
 in_range x = le (literal 0 1) x && le x (literal 51199 100)
 
--- The size of a finite x is the fraction num x / den x, exactly, so this is "limit × 128 cut to a whole number". 01: "−0.0 writes 0."
+-- The size of a finite x is the fraction num x / den x, exactly, so this is the limit times 128, cut. SCOPE 5.11: −0.0 writes 0.
 unfoldable pub rate_of : Float → Option ℕ
 rate_of x = cond (in_range x) (Some (num x * 128 / den x)) None
 
--- 01: "Call 14: a 32-bit float in MCPS", given by its bits
+-- SCOPE 5.11: the argument is the bits of a 32-bit float, in MCPS
 unfoldable pub signal_rate_limit_word : ℕ → Option ℕ
 signal_rate_limit_word bits = rate_of (of_bits binary32 bits)
 

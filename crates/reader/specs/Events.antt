@@ -1,5 +1,5 @@
 -- The events that a reader over lent records gives: the records in order, and then their end or spare bytes.
--- 01: "A reader over the lent records gives the next event"
+-- SCOPE 2.5: a reader gives one event after the other.
 use Rattle.std.specs.Prelude.{◌≡◌, Bool, true, false, cond, List, [], ◌∷◌, ◌++◌, map, ℕ, zero, suc, ◌+◌, leb, length, get_or}
 use Rattle.session.specs.declared.Answer.{Answer}
 use Rattle.session.specs.declared.Session.{Session}
@@ -14,7 +14,7 @@ event_of (call code a b) = Event.Call (record { code = code; a = a; b = b })
 event_of (reply f bs) = Event.Reply (record { failure = f; «data» = bs })
 event_of other = Event.Other
 
--- 01: "list length not a multiple of 8" is answer 14
+-- SCOPE 8.2: a length that is no multiple of 8 is answer 14
 abbrev pub last_of : List ℕ → Event
 last_of l = cond (is_whole l) Event.End Event.Spare
 

@@ -89,7 +89,7 @@ gone s l =
     (cond (ill_formed s) (Err Answer.IllFormedSession) (ok_or (going (starting s) (first_chunks 8 (length l / 8) l)) Answer.IllFormedSession))
     (Err Answer.SpareBytes)
 
--- what a run gives. 01: "14 and 15 end the list run with the session as given and all counts 0"
+-- what a run gives. SCOPE 8.2: 14 and 15 end it with the session as it was given and all counts 0
 unfoldable pub finished : Result Progress Answer → Session → ListRun
 finished (Ok p) given = record { answer = Answer.Done 0; session = p.session; counts = p.counts }
 finished (Err x) given = record { answer = x; session = given; counts = no_counts }

@@ -10,7 +10,7 @@ use reactions::{Course, Outcome};
 use session::{CallRecord, ReplyRecord, Session};
 use std::array;
 
-// A call is 01, its code, A and B; a reply is 02, its failure code and six data bytes.
+// SCOPE 7.1: a call is 0x01, its code, A and B; a reply is 0x02, its failure code and six data bytes.
 impl From<[u8; 8]> for Record {
     ghost from_gives = { λ bytes r. r ≡ shown (record_in bytes) };
 

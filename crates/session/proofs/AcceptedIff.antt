@@ -1,4 +1,4 @@
--- A call is accepted exactly where 01's numbers say so.
+-- A call is accepted exactly where the numbers of SCOPE 5.1 and SCOPE 9.1 say so.
 use mathlib.Core.Path.{◌≡◌, refl, sym, subst, ◌∙◌}
 use mathlib.Core.Logic.{◌↔◌}
 use mathlib.Core.Bool.{Bool, true, false, not, cond, and-false}
@@ -17,7 +17,7 @@ use Rattle.session.proofs.Facts.{cond_case}
 use Rattle.session.proofs.Table.{AllBelow, below}
 use Rattle.session.proofs.Accepts.{decide_accepts}
 
--- the arguments that 13 lets pass are those of 01's table
+-- the arguments that 13 lets pass are those of the table of refusals
 abbrev Same : ℕ → Type 0
 Same code = (a b : ℕ) → arguments_ok code a b ≡ in_range code a b ranges
 

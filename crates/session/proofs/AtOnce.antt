@@ -1,4 +1,4 @@
--- An accepted call is answered at once exactly by 01's rows for 5, 6 and the first 1; else it makes a transfer.
+-- An accepted call is answered at once exactly by the rows of SCOPE 9.1 for 5, 6 and the first 1; else it makes a transfer.
 use mathlib.Core.Path.{◌≡◌, refl, ◌∙◌}
 use mathlib.Core.Bool.{Bool, true, false, ◌||◌, ◌&&◌, cond}
 use mathlib.Core.Option.{Option}

@@ -1,4 +1,4 @@
--- The values of 01, computed from the definitions.
+-- The values of Bench (SCOPE 11.1), computed from the definitions.
 use mathlib.Core.Path.{◌≡◌, refl}
 use Prim.Native.Nat.{ℕ, ◌+◌, ◌*◌, ◌/◌, ◌%◌, ◌<◌}
 use native.Mathlib.Omega.{arith}

@@ -37,7 +37,7 @@ by_place : (p : Place) (x : ℕ) (t : Bool) → if t (panic (place_number p)) (O
 by_place p x true = refl
 by_place p x false = refl
 
--- 01: "Final less than pre while pre-range is on"
+-- SCOPE 5.3: fewer clocks than pre-range's, while pre-range is on
 abbrev pub less_by : Bool → ℕ → ℕ → Option Place
 less_by on x y = cond (on && ltb x y) (Some Place.FinalBelowPre) None
 

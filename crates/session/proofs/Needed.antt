@@ -28,7 +28,7 @@ abbrev arrival : ℕ → ℕ → List Instruction → List Part
 arrival code k [] = end_of code
 arrival code k (i ∷ is) = sends_of i ++ needed code k
 
--- 01: "If clearing fails too, call 6 reports the read's code": a failed write may report it
+-- SCOPE 5.8: if the clearing fails too, call 6 reports the read's code: a failed write may report it
 abbrev reported : ℕ → List Part
 reported code = cond (read_wins code) (failure_code ∷ []) []
 

@@ -18,7 +18,7 @@ use Rattle.session.proofs.Facts.{clash}
 use Rattle.session.specs.Instructions.{Instruction, panics, Verdict, onward, stop, test, Op, read, timing_in}
 use Rattle.session.specs.Steps.{budget_to_set, no_time, over_last, timing_register, timing_length, timing_place, op_of}
 
--- 01's number of a place, or 0
+-- the number of a place (SCOPE 9.4), or 0
 abbrev pub number : Option Place → ℕ
 number None = 0
 number (Some p) = place_number p

@@ -1,4 +1,4 @@
--- One record meeting one session is refused exactly by 01's table.
+-- One record meeting one session is refused exactly by the table of SCOPE 9.1.
 use mathlib.Core.Path.{◌≡◌, refl, sym, ap, subst, ◌∙◌}
 use mathlib.Core.Logic.{◌↔◌}
 use mathlib.Core.Bool.{Bool, true, false, not, ◌||◌, ◌&&◌, cond}

@@ -1,6 +1,6 @@
 -- What holds of every session that is handed in, also one that no run leaves: a call begins with its own code, arguments and count, and a call that
--- waits goes on in what is left of its script. 01: "arithmetic on carried bytes gives the first place in the Rust's order, also where no driver run
--- could have left them".
+-- waits goes on in what is left of its script. SCOPE 2.2: arithmetic on the bytes that a session carries gives the first place in the Rust's order
+-- there too.
 use Rattle.std.specs.Prelude.{◌≡◌, true, false, ◌&&◌, cond, eqb, leb, get_or, List, [], ◌∷◌, ◌++◌, ℕ, zero, suc, ◌+◌, ◌-◌, ◌*◌, ◌/◌, ◌%◌, ◌≤◌, length, take, drop}
 use Rattle.session.specs.Bus.{byte, absent, transfer_of, with_driver_address, with_driver_budget, Driver, Transfer, Answer, Reply, bad, good, wait_limit, idle_on, zero_from, clean_from, number_of}
 use Rattle.session.specs.Instructions.{Context, bytes_from, stop_answer, Verdict, onward, leap, stop, test, Op, write, read, wait, range, Final, success, failure, send_of, kept_bytes, kept_failure, kept_budget, read_wins, report_of}
@@ -163,12 +163,12 @@ Keeps s f bs (broken s') = Unit {0}
 abbrev pub KeepsTheRest : Session → ℕ → List ℕ → Type 0
 KeepsTheRest s f bs = Underway s → Keeps s f bs (step_def s (reply f bs))
 
--- FAILURES. The code that a failed reply ends a call with. 01: "If clearing fails too, call 6 reports the read's code, calls 7 and 8 the clearing's":
--- the clearing comes after the range read
+-- FAILURES. The code that a failed reply ends a call with. SCOPE 5.8: if the clearing fails too, call 6 reports the read's code, calls 7 and 8 the
+-- clearing's. The clearing comes after the range read
 abbrev pub failure_reported : Session → ℕ → ℕ
 failure_reported s f = cond (eqb s.code 6 && leb 2 s.step) (reported s.code s.failed f) f
 
--- 01: "fields follow the history rule": a bring-up that ends so leaves none
+-- SCOPE 6: a bring-up that ends so leaves none
 abbrev pub fields_left : Session → Driver
 fields_left s = cond (eqb s.code 1) absent s.driver
 
@@ -185,7 +185,7 @@ FailureEnds s f bs =
 abbrev pub SentFrom : Session → Session → Type 0
 SentFrom s s' = Underway s → Underway s' → AgreeOn (sent_from s.code s.step) s s' → outstanding s ≡ outstanding s'
 
--- 01: "Register writes read back as many bytes as the Rust asks (1; 6 for the map) and ignore them": a transfer that writes more than its register
+-- SCOPE 4.1: what a write reads back is ignored. A write is a transfer that writes more than its register
 abbrev pub IgnoresReadBack : Session → List ℕ → List ℕ → Type 0
 IgnoresReadBack s bs bs' =
     Underway s → 2 ≤ (outstanding s).count
@@ -298,8 +298,8 @@ pub data BudgetReply (s : Session) (n : ℕ) : ℕ → Script → Type 0 where
   in_bring_up : s.code ≡ 1 → s.step ≡ 129 + n → BudgetReply s n 8 (constructed (chip_in s 0) budget_and_calibration)
   again_in_bring_up : s.code ≡ 1 → s.step ≡ 136 + n → BudgetReply s n 16 (constructed (chip_in s s.own) (set_budget_from_reads s.own >> calibration))
 
--- 01: "arithmetic on carried bytes gives the first place in the Rust's order, also where no driver run could have left them". The reply leads where lib.rs
--- is after the carried bytes as replies and then this one: to its panic if they have one, else to its next read, its word or its answer
+-- SCOPE 2.2: the first place in the Rust's order, also on bytes that no run leaves. The reply leads where lib.rs is after the carried bytes as
+-- replies and then this one: to its panic if they have one, else to its next read, its word or its answer
 abbrev pub FirstPlace : Session → List ℕ → Type 0
 FirstPlace s bs =
     (n k : ℕ) (x : Script) → n ≤ 5 → BudgetReply s n k x
@@ -331,7 +331,7 @@ StepsWritten s bs =
     → zero_from (clean_from 0 (outstanding s).reads) bs ≡ true
     → StandsAt s (step_def s (reply 0 bs)) (constructed (chip_in s s.own) (set_measurement_timing_budget s.own >> calibration))
 
--- and 01: "period × oscillator word above 32 bits is place 1": call 4, with a period, waits for the oscillator word
+-- and SCOPE 5.7: period × oscillator word above 32 bits is place 1: call 4, with a period, waits for the oscillator word
 abbrev pub FirstPlaceOfPeriod : Session → List ℕ → Type 0
 FirstPlaceOfPeriod s bs =
     s.code ≡ 4 → s.step ≡ 7

@@ -1,4 +1,4 @@
--- Values that the definitions of this crate give: the numbers and values of the answers, a fresh session, records, the run that 01 prints,
+-- Values that the definitions of this crate give: the numbers and values of the answers, a fresh session, records, the run of SCOPE 10.1,
 -- and what a session that no run leaves makes of a reply.
 use Rattle.std.specs.Prelude.{◌≡◌, true, false, List, [], ◌∷◌, map, ◌++◌, ℕ, ◌+◌, ◌*◌, replicate}
 use Rattle.std.proofs.lemmas.List.Edits.{sets}
@@ -9,7 +9,7 @@ use Rattle.session.specs.Records.{call, reply, other, call_bytes, reply_bytes, r
 use Rattle.session.specs.History.{transfer, answer, refusal, Entry, run_def}
 use Rattle.session.specs.Claim1.{refusal_number}
 
--- 01: "Input 01 01 00 00 00 29 00 00, 02 00 00 00 00 00 00 00 prints", and then the lines T 29 C0 1 and A 2 0 1
+-- SCOPE 10.1: the input that prints T 29 C0 1 and A 2 0 1
 abbrev pub input : List ℕ
 input = 0x01 ∷ 0x01 ∷ 0x00 ∷ 0x00 ∷ 0x00 ∷ 0x29 ∷ 0x00 ∷ 0x00 ∷ 0x02 ∷ 0x00 ∷ 0x00 ∷ 0x00 ∷ 0x00 ∷ 0x00 ∷ 0x00 ∷ 0x00 ∷ []
 
@@ -64,7 +64,7 @@ replied1 s x = reply_def s 0 (x ∷ 0 ∷ 0 ∷ 0 ∷ 0 ∷ 0 ∷ [])
 abbrev pub reading : ℕ → List ℕ → Session
 reading n bytes = held 15 0 0 n (n + 1) bytes
 
--- 01: "arithmetic on carried bytes gives the first place in the Rust's order, also where no driver run could have left them"
+-- SCOPE 2.2: arithmetic on carried bytes gives the first place in the Rust's order, also on bytes that no run leaves
 pub record CarriedPlaces : Type 0 where
   pub pre_before_final : Panics (reading 2 (0x00 ∷ 0x10 ∷ 0x00 ∷ [])) 2 (replied1 (reading 2 (0x00 ∷ 0x10 ∷ 0x00 ∷ [])) 1)
   pub final_before_period : Panics (reading 3 (0x00 ∷ 0x00 ∷ 0x00 ∷ 0x10 ∷ 0x00 ∷ [])) 2 (replied1 (reading 3 (0x00 ∷ 0x00 ∷ 0x00 ∷ 0x10 ∷ 0x00 ∷ [])) 255)
@@ -87,7 +87,7 @@ pub record HeldValues : Type 0 where
   -- call 4 with period 0 at a timed step writes the product 0, and then the mode of period 0
   pub no_period : reply_def (held 4 0 0 7 8 []) 0 (0x12 ∷ 0x34 ∷ 0 ∷ 0 ∷ 0 ∷ 0 ∷ []) ≡ sent (transfer_of 0x29 (0x04 ∷ 0 ∷ 0 ∷ 0 ∷ 0 ∷ []) 1) (held 4 0 0 8 9 (0x12 ∷ 0x34 ∷ []))
   pub no_period_mode : replied1 (held 4 0 0 8 9 (0x12 ∷ 0x34 ∷ [])) 0 ≡ sent (transfer_of 0x29 (0x00 ∷ 0x02 ∷ []) 1) (held 4 0 0 9 10 (0x12 ∷ 0x34 ∷ []))
-  -- 01: "low × 65536 + high for call 11"
+  -- SCOPE 5.1, call 11: low × 65536 + high
   pub pair : reply_def (held 11 0 0 1 2 (0x00 ∷ 0x96 ∷ [])) 0 (0x0F ∷ 0xFF ∷ 0 ∷ 0 ∷ 0 ∷ 0 ∷ []) ≡ answered (Answer.Done (300 * 65536 + 8190)) 2 (resting (held 11 0 0 1 2 []).driver)
   -- a count at the ceiling passes 15, and is over it one transfer later
   pub at_ceiling : replied1 (held 4 0 0 0 10 []) 0 ≡ sent (transfer_of 0x29 (0xFF ∷ 0x01 ∷ []) 1) (held 4 0 0 1 11 [])
@@ -101,7 +101,7 @@ standing = resting (record { up = true; address = 0x29; stop = 0x3C; budget = 31
 abbrev pub refusal_of : ℕ × ℕ × ℕ → ℕ
 refusal_of x = refusal_number (step_def standing (call x.0 x.1 x.2))
 
--- 01: "Argument range: addresses to 255, low threshold to 65,535, functionality to 3, polarity to 1", and unused arguments zero
+-- SCOPE 7.2: the edges of the argument ranges, and arguments that are not used
 pub record EdgeValues : Type 0 where
   pub codes : map refusal_of ((0, 0, 0) ∷ (2, 0, 0) ∷ (15, 0, 0) ∷ (16, 0, 0) ∷ []) ≡ 13 ∷ 0 ∷ 0 ∷ 13 ∷ []
   pub addresses : map refusal_of ((1, 255, 0) ∷ (1, 256, 0) ∷ (3, 255, 0) ∷ (3, 256, 0) ∷ []) ≡ 0 ∷ 13 ∷ 0 ∷ 13 ∷ []

@@ -1,5 +1,5 @@
 -- The words of the bus: transfers, replies, waits, answers and the driver's fields.
--- 01, "Transfers and waits" and the table of answers.
+-- SCOPE 4 and SCOPE 9.1.
 use Rattle.std.specs.Prelude.{Bool, true, false, not, ◌&&◌, List, [], ◌∷◌, ℕ, zero, suc, ◌%◌, eqb, length, take, get_or}
 pub use Rattle.session.specs.declared.Driver.{Driver}
 pub use Rattle.session.specs.declared.Transfer.{Transfer}
@@ -15,7 +15,7 @@ pad_to zero bs = []
 pad_to (suc n) [] = 0 ∷ pad_to n []
 pad_to (suc n) (b ∷ bs) = b ∷ pad_to n bs
 
--- 01: "A transfer has an address, 1..7 written bytes and a read length 0, 1, 2 or 6."
+-- SCOPE 4.1: a transfer has an address, 1 to 7 bytes to be written, and a read length
 abbrev pub transfer_of : ℕ → List ℕ → ℕ → Transfer
 transfer_of address bytes reads = record { address = address; count = length bytes; written = pad_to 7 bytes; reads = reads }
 
@@ -43,13 +43,13 @@ zero_from n [] = true
 zero_from zero (x ∷ xs) = eqb x 0 && zero_from zero xs
 zero_from (suc n) (x ∷ xs) = zero_from n xs
 
--- 01: "six data bytes, those past the read length zero; all zero on failure. Any other data byte set is a stray byte."
+-- SCOPE 7.2: data past the read length has to be zero, and all data beside a failure code
 abbrev pub clean_from : ℕ → ℕ → ℕ
 clean_from zero n = n
 clean_from (suc e) n = 0
 
--- 01: "Waits: detector, 0x83 non-zero, limit 65,535; status, low three bits of 0x13 not all zero, limit 10,000;
--- start, bit 0 of 0x00 clear, limit 10,000."
+-- SCOPE 4.2: the detector wait is met when 0x83 is not 0, the status wait when one of the low three bits of 0x13 is set,
+-- the start wait when bit 0 of 0x00 is clear
 pub data Condition : Type 0 where
   detector_ready status_ready started : Condition
 
@@ -70,7 +70,7 @@ idle_on detector_ready bs = eqb (byte 0 bs) 0
 idle_on status_ready bs = eqb (byte 0 bs % 8) 0
 idle_on started bs = not (eqb (byte 0 bs % 2) 0)
 
--- 01's number of each answer
+-- SCOPE 9.1: the number of each answer
 abbrev pub number_of : Answer → ℕ
 number_of (Answer.Done value) = 0
 number_of Answer.False = 1
@@ -89,7 +89,7 @@ number_of Answer.IllFormedRecord = 13
 number_of Answer.SpareBytes = 14
 number_of Answer.IllFormedSession = 15
 
--- and its values: one today
+-- and its values, one today: a definition gives both (SCOPE 2.3)
 abbrev pub values_of : Answer → List ℕ
 values_of (Answer.Done value) = value ∷ []
 values_of Answer.False = 0 ∷ []
@@ -108,7 +108,7 @@ values_of Answer.IllFormedRecord = 0 ∷ []
 values_of Answer.SpareBytes = 0 ∷ []
 values_of Answer.IllFormedSession = 0 ∷ []
 
--- 01: "While not up, all three are 0"
+-- SCOPE 6: while the session is not up all three are 0
 abbrev pub absent : Driver
 absent = record { up = false; address = 0; stop = 0; budget = 0 }
 

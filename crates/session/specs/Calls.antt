@@ -1,4 +1,4 @@
--- The calls: what their arguments decide, their instructions, and how they end. 01, "Calls"; the transfers are those of lib.rs, in its order.
+-- The calls: what their arguments decide, their instructions, and how they end. SCOPE 5; the transfers are those of lib.rs, in its order.
 use Rattle.std.specs.Prelude.{Bool, true, ◌||◌, ◌&&◌, List, [], ◌∷◌, ◌++◌, map, ℕ, zero, suc, ◌+◌, ◌*◌, ltb, leb, get_or, Option, None, Some, Result, Ok, Err}
 use Rattle.rate.specs.Rate.{signal_rate_limit_word}
 use Rattle.threshold.specs.declared.InvalidArgument.{InvalidArgument}
@@ -51,7 +51,7 @@ calibration b = Instruction.Write 0x00 b ∷ Instruction.AwaitStatus ∷ clearin
 abbrev pub preparation : List Instruction
 preparation = rows ((0x80, 0x01) ∷ (0xFF, 0x01) ∷ (0x00, 0x00) ∷ []) ++ Instruction.WriteStop ∷ rows ((0x00, 0x01) ∷ (0xFF, 0x00) ∷ [])
 
--- 01: "The tuning list is 80 rows of register and byte, from `load_tuning_settings` in the source's order, first FF 01, last 80 00."
+-- SCOPE 2.4: 80 rows of a register and a byte, those under `load_tuning_settings` in the Rust's order, the first FF 01, the last 80 00
 unfoldable pub tuning : List (ℕ × ℕ)
 tuning =
     (0xFF, 0x01) ∷ (0x00, 0x00) ∷ (0xFF, 0x00) ∷ (0x09, 0x00) ∷ (0x10, 0x00) ∷ (0x11, 0x00) ∷ (0x24, 0x01) ∷ (0x25, 0xFF)
@@ -81,7 +81,7 @@ spad_steps =
     ∷ Instruction.WriteAnd 0x83 0xFB
     ∷ rows ((0xFF, 0x01) ∷ (0x00, 0x01) ∷ (0xFF, 0x00) ∷ (0x80, 0x00) ∷ [])
 
--- lib.rs: with_address and init_hardware. 01: "identity, then `init_hardware`; 153 transfers and three waits"
+-- lib.rs: with_address and init_hardware. SCOPE 5.2: 153 transfers and three waits
 abbrev pub bring_up_steps : List Instruction
 bring_up_steps =
     Instruction.Identify
@@ -110,14 +110,14 @@ bring_up_steps =
     ++ Instruction.Write 0x01 0xE8
     ∷ []
 
--- 01: "Address: that bring-up's [..] Stop byte: the byte that bring-up read at 0x91. Budget: the value call 15 would give for that bring-up's first six budget reads"
+-- SCOPE 6: a bring-up's argument, the byte that it read at 0x91, and what call 15 would give for its first six budget reads
 abbrev pub brought_up : ℕ → List ℕ → ℕ → Driver
 brought_up a carried own = record { up = true; address = a; stop = byte stop_slot carried; budget = own }
 
 abbrev pub finishes : (Context → ℕ) → Context → Final
 finishes value c = success (value c) c.driver
 
--- 01: "then the read's code is reported"
+-- SCOPE 5.8: after a failed range read the read's code is reported
 abbrev pub by_code : ℕ → Final → Final
 by_code zero f = f
 by_code (suc e) f = failure (suc e)
@@ -144,8 +144,7 @@ with_address_call = record { entry = pass; steps = bring_up_steps; final = λ c.
 abbrev pub who_am_i_call : Program
 who_am_i_call = valued (Instruction.Read 0xC0 identity_slot ∷ []) (slot identity_slot)
 
--- 01: "call 3, address outside 0x08..0x77"
--- call 3, lib.rs: set_address
+-- call 3, lib.rs: set_address. SCOPE 5.6: it takes 0x08 to 0x77
 abbrev pub set_address_call : Program
 set_address_call =
     record {
@@ -196,15 +195,14 @@ set_thresholds_call =
       final = finishes (λ c. 0);
     }
 
--- 01: "low × 65536 + high for call 11"
--- call 11, lib.rs: get_interrupt_thresholds_mm
+-- call 11, lib.rs: get_interrupt_thresholds_mm. SCOPE 5.1: low × 65536 + high
 abbrev pub get_thresholds_call : Program
 get_thresholds_call =
     valued
     (Instruction.ReadWord 0x0E timing_slot ∷ Instruction.ReadWord 0x0C (timing_slot + 2) ∷ [])
     (λ c. (decode_threshold (record { 0 = slot_word timing_slot c })).0 * 65536 + (decode_threshold (record { 0 = slot_word (timing_slot + 2) c })).0)
 
--- call 12, lib.rs: set_gpio_config
+-- call 12, lib.rs: set_gpio_config (SCOPE 5.10)
 abbrev pub set_gpio_config_call : Program
 set_gpio_config_call = plain (gpio_steps Instruction.WriteFunction Instruction.WritePolarity)
 
@@ -242,19 +240,18 @@ program_of code = get_or programs code nothing
 abbrev pub default_address : ℕ
 default_address = 0x29
 
--- 01: "code 1..15"
+-- SCOPE 7.2: the codes are 1 to 15
 abbrev pub top_code : ℕ
 top_code = 15
 
--- 01: "Code, Rust function, ceiling"
+-- SCOPE 5.1: by code, the ceiling of transfers
 unfoldable pub ceilings : List ℕ
 ceilings = 0 ∷ 85688 ∷ 1 ∷ 1 ∷ 10 ∷ 6 ∷ 4 ∷ 10003 ∷ 20011 ∷ 7 ∷ 2 ∷ 2 ∷ 5 ∷ 2 ∷ 1 ∷ 6 ∷ []
 
 unfoldable pub ceiling_of : ℕ → ℕ
 ceiling_of code = get_or ceilings code 0
 
--- 01: "Argument range: addresses to 255, low threshold to 65,535, functionality to 3, polarity to 1", and "unused not zero".
--- By code: the greatest A and B
+-- SCOPE 5.1: by code, the greatest A and B; an argument that is not used is 0
 unfoldable pub greatest : List (ℕ × ℕ)
 greatest =
     (0, 0) ∷ (255, 0) ∷ (0, 0) ∷ (255, 0) ∷ (4294967295, 0) ∷ (0, 0) ∷ (0, 0) ∷ (0, 0) ∷ (0, 0) ∷ (4294967295, 0) ∷ (65535, 65535)

@@ -1,5 +1,5 @@
--- Demand 1: "One transfer or numbered answer, fixed by document 01, meets every session, record and slice of records;
--- a refusal makes no transfer and changes neither the session nor any lent byte."
+-- Demand 1 (SCOPE 1.1): every record that meets any session gets one transfer or one numbered answer, and every slice of records the one answer of
+-- its run; a refusal makes no transfer and changes neither the session nor a lent byte.
 use Rattle.std.specs.Prelude.{◌≡◌, Bool, true, false, ◌||◌, cond, List, [], ◌∷◌, ℕ, ◌%◌, ◌≤◌, eqb, length}
 use Rattle.std.proofs.Math.Option.{Option, some, none}
 use Rattle.session.specs.Bus.{Transfer, Answer, byte, bytes_of, zero_from, number_of, values_of, absent}
@@ -8,7 +8,7 @@ use Rattle.session.specs.Records.{Record, call, records_of, step_def}
 use Rattle.session.specs.Refusals.{refusals, first_match, Underway, at_once, first_answer}
 use Rattle.session.specs.History.{Entry, calls_in, answers_in, replies_in, transfers_in, refused_in, Run, session_after, Genuine, in_order}
 
--- 01: "A transfer has an address, 1..7 written bytes and a read length 0, 1, 2 or 6."
+-- SCOPE 4.1: 1 to 7 bytes to be written, and a read length of 0, 1, 2 or 6
 abbrev pub is_length : ℕ → Bool
 is_length n = eqb n 0 || eqb n 1 || eqb n 2 || eqb n 6
 
@@ -51,7 +51,7 @@ answer_shown (answered x n s) = some (number_of x, byte 0 (values_of x), n)
 answer_shown (refused x s) = some (number_of x, 0, 0)
 answer_shown (broken s) = some (15, 0, 0)
 
--- a record of one session: what it gets is fixed, and refused exactly by 01's table
+-- a record of one session: what it gets is fixed, and refused exactly by the table of SCOPE 9.1
 pub record Demand1 (s : Session) (r : Record) : Type 0 where
   pub single : Single s (step_def s r)
   pub refused : refusal_number (step_def s r) ≡ first_match (refusals s r)
@@ -84,12 +84,12 @@ LeavesNone (answered x n s) = eqb (number_of x) 0 ≡ false → s.driver ≡ abs
 LeavesNone (refused x s) = Unit {0}
 LeavesNone (broken s) = Unit {0}
 
--- 01: "14, session as given, counts 0", and "14 and 15 end the list run with the session as given and all counts 0"
+-- SCOPE 8.2: 14 and 15 end the run with the session as it was given and all counts 0
 abbrev pub ended_at_once : Answer → Session → Run
 ended_at_once x s =
     record { answer = x; session = s; counts = record { calls = 0; answers = 0; replies = 0; transfers = 0; refused = 0 }; history = [] }
 
--- 01: "It returns answer 0, the end session and counts of accepted calls, the answers these got, accepted replies, transfers, refused"
+-- SCOPE 8.1: at the end stand answer 0, the session and the five counts
 abbrev pub completed : Session → List Entry → Run
 completed s h =
     record {

@@ -1,5 +1,5 @@
--- Demand 2: "For every session, accepted call and list of bus replies [..] equality with [the Rust] in each transfer's bytes and order, in the answer
--- and in the driver's fields [..]. Where the Rust panics, the same transfers and then answer 8."
+-- Demand 2 (SCOPE 1.2): for every session, accepted call and list of replies, the Rust's transfers, the same bytes in the same order, its answer and
+-- its fields. Where the Rust panics, the same transfers and then answer 8.
 use Rattle.std.specs.Prelude.{◌≡◌, true, List, [], ◌∷◌, ℕ}
 use Rattle.session.specs.Bus.{Answer}
 use Rattle.session.specs.Machine.{Session, Outcome, sent, answered, refused, broken}

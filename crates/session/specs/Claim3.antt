@@ -1,4 +1,4 @@
--- Demand 3: what holds of every list of records that is run from a fresh session. What it says of the calls is read off the bus:
+-- Demand 3 (SCOPE 1.3): what holds of every list of records that is run from a fresh session. What it says of the calls is read off the bus:
 -- from a call's code, the bytes written, the read length, the replies and their order. Exchanges stand newest first.
 use Rattle.std.specs.Prelude.{◌≡◌, Bool, true, false, ◌||◌, ◌&&◌, cond, List, [], ◌∷◌, ℕ, zero, suc, ◌+◌, ◌*◌, ◌%◌, ◌≤◌, eqb, T, length, get_or}
 use Rattle.session.specs.Bus.{Driver, Transfer, Answer, byte, bytes_of, Reply, bad, good, failure_in, data_in, Condition, detector_ready, status_ready, started, number_of, values_of, absent, with_driver_address, with_driver_budget}
@@ -22,7 +22,8 @@ wrote bs t = bytes_are (bytes_of t) bs
 abbrev pub asks : ℕ → Transfer → Bool
 asks reg t = wrote (reg ∷ []) t && eqb t.reads 1
 
--- CEILING. "No call has made more transfers than its ceiling in 01 (bring-up 85,688)." The claim's numbers and tests are its own: written down again, not the machine's.
+-- CEILING. No call has made more transfers than its ceiling (SCOPE 5.1). The claim's numbers and tests are its own: written down again, not the
+-- machine's.
 unfoldable pub ceiling_in : ℕ → ℕ
 ceiling_in code = get_or (0 ∷ 85688 ∷ 1 ∷ 1 ∷ 10 ∷ 6 ∷ 4 ∷ 10003 ∷ 20011 ∷ 7 ∷ 2 ∷ 2 ∷ 5 ∷ 2 ∷ 1 ∷ 6 ∷ []) code 0
 
@@ -30,8 +31,8 @@ ceiling_in code = get_or (0 ∷ 85688 ∷ 1 ∷ 1 ∷ 10 ∷ 6 ∷ 4 ∷ 10003 �
 unfoldable pub floor_in : ℕ → ℕ
 floor_in code = get_or (0 ∷ 149 ∷ 1 ∷ 1 ∷ 8 ∷ 6 ∷ 4 ∷ 4 ∷ 13 ∷ 7 ∷ 2 ∷ 2 ∷ 5 ∷ 2 ∷ 1 ∷ 6 ∷ []) code 0
 
--- TIMEOUT. "A call was answered Timeout exactly when its last 65,535 accepted replies (detector wait) or its last 10,000 (any other wait)
--- were idle reads of one wait."
+-- TIMEOUT. A call was answered Timeout exactly if its last accepted replies, 65,535 for the detector wait and 10,000 for the others, were all idle
+-- reads of that wait (SCOPE 4.2).
 unfoldable pub limit_in : ℕ → Condition → ℕ
 limit_in code detector_ready = 65535
 limit_in code status_ready = 10000
@@ -55,7 +56,7 @@ read_of detector_ready code t es = (asks 0x83 t && eqb code 1) && awaited es
 read_of status_ready code t es = asks 0x13 t && awaits_status code
 read_of started code t es = asks 0x00 t && awaits_start code
 
--- 01: "A read of a wait is idle if its reply has no failure and shows the condition unmet; a failed read is not idle."
+-- SCOPE 4.2: a read of a wait is idle if its reply is no failure and the condition is not met; a failed read is not idle
 unfoldable pub unmet : Condition → List ℕ → Bool
 unmet detector_ready bs = eqb (byte 0 bs) 0
 unmet status_ready bs = eqb (byte 0 bs % 8) 0
@@ -83,9 +84,9 @@ TimeoutRule c =
     (T (is_timeout c.standing) → LimitReached c.code c.exchanges)
     × (LimitReached c.code c.exchanges → T (is_timeout c.standing))
 
--- FAILURE. "A failed transfer ended its call at its reply, except a failed range read: its call followed that with clearing the interrupt,
--- as far as the list's replies took it, and with nothing else."
--- 01: "a range read is the read of the range word in calls 6, 7 and 8"
+-- FAILURE. A failed transfer ended its call at once, unless it was a range read: then the call went on to clear the interrupt, as far as the list
+-- has replies for it, and did nothing else.
+-- SCOPE 8.3: a range read is the read of the range word in calls 6, 7 and 8
 abbrev pub reads_range : ℕ → Bool
 reads_range code = eqb code 6 || eqb code 7 || eqb code 8
 
@@ -97,7 +98,7 @@ abbrev pub range_failure : ℕ → List Exchange → ℕ
 range_failure code [] = 0
 range_failure code (e ∷ es) = cond (range_read code e.sent) (failure_in e.reply) (range_failure code es)
 
--- 01: "If clearing fails too, call 6 reports the read's code, calls 7 and 8 the clearing's."
+-- SCOPE 5.8: if the clearing fails too, call 6 reports the read's code, calls 7 and 8 the clearing's
 abbrev pub reports_read : ℕ → Bool
 reports_read code = eqb code 6
 
@@ -142,7 +143,7 @@ Failures code later (e ∷ es) st = AfterReply code e.sent e.reply later es st �
 abbrev pub FailureRule : CallRun → Type 0
 FailureRule c = Failures c.code [] c.exchanges c.standing
 
--- FIELDS. "Whether the session is up, its address, its stop byte and its stored budget are exactly what 01 derives from the history."
+-- FIELDS. Whether the session is up, its address, its stop byte and its budget are what SCOPE 6 derives from the history.
 -- the register has been read among the exchanges, and the data of the first reply to that
 abbrev pub was_read : ℕ → List Exchange → Bool
 was_read reg [] = false
@@ -180,7 +181,7 @@ done_value (refuses a x) = done_value x
 done_value waits = 0
 done_value (ends a d) = cond (eqb (number_of a) 0) (byte 0 (values_of a)) 0
 
--- 01: "the value call 15 would give": the Rust's function of call 15 over these replies
+-- SCOPE 6: what call 15 would give: the Rust's function of call 15 over these replies
 unfoldable pub value_of_call15 : List Raw → ℕ
 value_of_call15 replies = done_value (play (rust absent 15 0 0) replies)
 
@@ -202,12 +203,12 @@ up_by a es = record { up = true; address = a; stop = first_byte 0x91 0 es; budge
 abbrev pub after_done : ℕ → ℕ → List Exchange → Driver → Driver
 after_done code a es d = cond (eqb code 1) (up_by a es) (cond (eqb code 3) (with_driver_address d a) (cond (eqb code 9) (with_driver_budget d a) d))
 
--- 01: "a session is up from a bring-up answered Done until the next bring-up is begun"
+-- SCOPE 6: up from a bring-up that was answered Done until the next one is begun
 abbrev pub is_up : List CallRun → Bool
 is_up [] = false
 is_up (c ∷ cs) = cond (eqb c.code 1) (is_done c.standing) (is_up cs)
 
--- 01: "While not up, all three are 0"
+-- SCOPE 6: while the session is not up all three are 0
 abbrev pub driver_of : List CallRun → Driver
 driver_of [] = absent
 driver_of (c ∷ cs) =
@@ -250,11 +251,11 @@ of_waiting f [] = 0
 of_waiting f (c ∷ cs) = cond (eqb (is_waiting c.standing) 1) (f c) 0
 
 pub record Demand3 (bytes : List ℕ) (run : Run) : Type 0 where
-  -- "at its end: transfers = accepted replies + waiting calls"
+  -- sum: transfers = accepted replies + waiting calls
   pub sum : transfers_in run.history ≡ replies_in run.history + waiting_in (calls_of run.history)
-  -- "No call has made more transfers than its ceiling", Timeout, failed transfers: the laws of each call
+  -- ceiling, timeout, failure: the laws of each call
   pub calls : All Lawful (calls_of run.history)
-  -- "Whether the session is up, its address, its stop byte and its stored budget"
+  -- fields
   pub up : run.session.driver.up ≡ is_up (calls_of run.history)
   pub fields : run.session.driver ≡ driver_of (calls_of run.history)
   pub absent_while_down : is_up (calls_of run.history) ≡ false → run.session.driver ≡ absent
@@ -265,7 +266,7 @@ pub record Demand3 (bytes : List ℕ) (run : Run) : Type 0 where
   -- each record has what the definitions of demands 1 and 2 give it, and the session is the one that the last record left
   pub genuine : Genuine fresh_session run.history
   pub session : run.session ≡ session_after fresh_session run.history
-  -- the five counts are counts over the history, and "records = calls + replies + refused"
+  -- SCOPE 8.1: the five counts are counts over the history, and records = calls + replies + refused
   pub tallied : run.counts
       ≡ record {
         calls = calls_in run.history;

@@ -1,12 +1,12 @@
 -- The run over a list of records, its history and counts, and the calls of a history with their exchanges.
--- 01, "Records and the list run". Lists of the history stand newest first.
+-- SCOPE 8. Lists of the history stand newest first.
 use Rattle.std.specs.Prelude.{cond, false, List, [], ◌∷◌, ℕ, ◌+◌, length, ◌≡◌}
 use Rattle.session.specs.Bus.{Transfer, Answer, Reply}
 use Rattle.session.specs.Machine.{Session, Outcome, sent, answered, refused, broken, to_reply, ill_formed}
 use Rattle.session.specs.Records.{Record, call, reply, other, records_of, is_whole, step_def}
 
--- 01: "A list's history is its records in order, each with what the definitions of demands 1 and 2 give it:
--- one transfer, its call's answer, or a refusal." An answer stands with the transfers that its call made
+-- SCOPE 8.3: the history is the records in order, each with what it got: one transfer, its call's answer, or a refusal.
+-- An answer stands with the transfers that its call made
 pub data Got : Type 0 where
   transfer : Transfer → Got
   answer : Answer → ℕ → Got
@@ -32,7 +32,7 @@ is_refused (transfer t) = 0
 is_refused (answer x n) = 0
 is_refused (refusal x) = 1
 
--- 01: "An accepted record is one not refused"
+-- SCOPE 8.3: an accepted record is one that is not refused
 abbrev pub is_accepted : Got → ℕ
 is_accepted (transfer t) = 1
 is_accepted (answer x n) = 1
@@ -68,7 +68,7 @@ abbrev pub refused_in : List Entry → ℕ
 refused_in [] = 0
 refused_in (e ∷ h) = is_refused e.got + refused_in h
 
--- 01: "counts of accepted calls, the answers these got, accepted replies, transfers, refused"
+-- SCOPE 8.1: accepted calls, the answers that these got, accepted replies, transfers, refused records
 pub record Counts : Type 0 where
   pub calls : ℕ
   pub answers : ℕ
@@ -86,7 +86,7 @@ pub record Run : Type 0 where
   pub counts : Counts
   pub history : List Entry
 
--- 01: "14 and 15 end the list run with the session as given and all counts 0", and "A run ended by 14 or 15 has an empty [history]"
+-- SCOPE 8.2: 14 and 15 end the run with the session as it was given and all counts 0, and the history is empty
 abbrev pub stopped : Answer → Session → Run
 stopped x s = record { answer = x; session = s; counts = counts_of []; history = [] }
 
@@ -96,7 +96,7 @@ taking (answered x n s) given h r k = k s (record { what = r; got = answer x n }
 taking (refused x s) given h r k = k s (record { what = r; got = refusal x } ∷ h)
 taking (broken s) given h r k = stopped Answer.IllFormedSession given
 
--- 01: "Each record meets the session that the one before it left"; 15 met anywhere gives back the session given to the run
+-- SCOPE 8.1: each record meets the session that the one before it left. SCOPE 8.2: 15 met anywhere gives back the session given to the run
 unfoldable pub run_from : Session → List Record → Session → List Entry → Run
 run_from given [] s h = record { answer = Answer.Done 0; session = s; counts = counts_of h; history = h }
 run_from given (r ∷ rs) s h = taking (step_def s r) given h r (run_from given rs)
@@ -162,7 +162,7 @@ abbrev pub exchanged : CallRun → Standing → Reply → Standing → CallRun
 exchanged c (waiting t) r st = record { code = c.code; a = c.a; b = c.b; exchanges = by t r ∷ c.exchanges; standing = st }
 exchanged c (ended x n) r st = c
 
--- 01: "an accepted reply belongs to the last accepted call before it"
+-- SCOPE 8.3: an accepted reply belongs to the last accepted call before it
 abbrev pub replied : Reply → Standing → List CallRun → List CallRun
 replied r st [] = []
 replied r st (c ∷ cs) = exchanged c c.standing r st ∷ cs
@@ -180,7 +180,7 @@ abbrev pub calls_of : List Entry → List CallRun
 calls_of [] = []
 calls_of (e ∷ h) = joined e.what e.got (calls_of h)
 
--- 01: "waiting calls are the accepted ones without an answer"
+-- SCOPE 8.3: a waiting call is an accepted one without an answer
 abbrev pub is_waiting : Standing → ℕ
 is_waiting (waiting t) = 1
 is_waiting (ended x n) = 0
@@ -189,6 +189,6 @@ abbrev pub waiting_in : List CallRun → ℕ
 waiting_in [] = 0
 waiting_in (c ∷ cs) = is_waiting c.standing + waiting_in cs
 
--- 01: "A call's transfers are those given to its own record and to its replies"
+-- SCOPE 8.3: the transfers of a call are those given to its own record and to its replies
 abbrev pub transfers_of : CallRun → ℕ
 transfers_of c = is_waiting c.standing + length c.exchanges

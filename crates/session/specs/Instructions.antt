@@ -51,7 +51,7 @@ pub data Op : Type 0 where
   -- register, length, slot of the bytes, instructions that a leap leaves out, what a good reply decides
   read : ℕ → ℕ → ℕ → ℕ → (Context → Verdict) → Op
   wait : Condition → Op
-  -- 01: "after a failed range read the interrupt is still cleared": a failure is kept, and the call goes on
+  -- SCOPE 5.8: after a failed range read the interrupt is cleared all the same: the failure is kept, and the call goes on
   range : Op
 
 -- how a call ends after its last instruction
@@ -130,7 +130,7 @@ kept_budget (read reg n slot over after) (good bs) carried own = cond (eqb slot 
 kept_budget (wait x) r carried own = own
 kept_budget range r carried own = own
 
--- 01: "If clearing fails too, call 6 reports the read's code, calls 7 and 8 the clearing's."
+-- SCOPE 5.8: if the clearing fails too, call 6 reports the read's code, calls 7 and 8 the clearing's
 abbrev pub read_wins : ℕ → Bool
 read_wins code = eqb code 6
 

@@ -4,7 +4,7 @@ pub mod Instructions
 pub mod Steps
 pub mod Calls
 pub mod Machine
--- records of bytes, and 01's table of refusals
+-- records of bytes, and the table of refusals
 pub mod Records
 pub mod Refusals
 -- the Rust as a script

@@ -1,4 +1,4 @@
--- The session, and what each call and each reply gives it: a transfer, an answer or a refusal. 01's table, in its order.
+-- The session, and what each call and each reply gives it: a transfer, an answer or a refusal. SCOPE 9.1, in its order.
 use Rattle.std.specs.Prelude.{Bool, true, false, not, ◌||◌, ◌&&◌, cond, List, [], ◌∷◌, ℕ, zero, suc, ◌+◌, eqb, ltb, leb, drop, replicate}
 pub use Rattle.session.specs.declared.Session.{Session}
 use Rattle.session.specs.Bus.{Driver, Transfer, transfer_of, Answer, Reply, bad, good, Condition, wait_limit, idle_on, absent}
@@ -17,11 +17,11 @@ pub data Outcome : Type 0 where
 abbrev pub zeros : List ℕ
 zeros = replicate 24 0
 
--- at an answer all that a call carried becomes zero
+-- SCOPE 9.3: at an answer all that a call carried becomes zero
 abbrev pub resting : Driver → Session
 resting d = record { driver = d; code = 0; a = 0; b = 0; step = 0; idle = 0; transfers = 0; failed = 0; own = 0; carried = zeros }
 
--- 01: "A fresh session is not up, has no call waiting and holds zeros."
+-- SCOPE 2.2: a fresh session is not up, no call waits in it, and all else is zero
 abbrev pub fresh_session : Session
 fresh_session = resting absent
 
@@ -105,7 +105,7 @@ decide (stop x) p over k s = giving (stop_answer x) s
 decide (test b v w) p over k s = cond b (decide v p over k s) (decide w p over k s)
 
 -- a read of a wait that gives up at `limit` reads.
--- 01: "The read that reaches the limit idle gives Timeout; ready on that read succeeds."
+-- SCOPE 4.2: the idle read that reaches the limit is answered Timeout; a read that meets the condition there goes on
 abbrev pub wait_read : ℕ → Condition → Program → Session → List ℕ → Outcome
 wait_read limit x p s bs =
     cond (idle_on x bs)
@@ -150,8 +150,8 @@ first_transfer_out (op ∷ ops) c = send_of op c
 abbrev pub outstanding : Session → Transfer
 outstanding s = first_transfer_out (drop s.step (ops_of (program_of s.code))) (context_of s)
 
--- 01's answer 15, "while a call waits": "code or arguments that 13 would refuse, call 1 marked up or another not up, step not of its call,
--- idle reads at or over the wait's limit or not 0 outside a wait, transfers 0 or over the ceiling"
+-- SCOPE 9.2, answer 15 while a call waits: code or arguments that 13 would refuse, call 1 marked up or another not up, a step that is not the
+-- call's, idle reads at or over the wait's limit or not 0 outside a wait, transfers 0 or over the ceiling
 abbrev pub idle_wrong : ℕ → List Op → ℕ → Bool
 idle_wrong code [] i = true
 idle_wrong code (write reg bytes len over after ∷ ops) i = not (eqb i 0)

@@ -1,5 +1,6 @@
 -- What a waiting session carries, in parts, and tables by call and step: what is needed of it, what the course looks at, what is sent, what is kept.
--- 01: "While a call waits the session carries its arguments and the reply bytes still needed, raw". The tables are the claim's own, and not the machine's.
+-- SCOPE 2.2: while a call waits the session carries its arguments and, raw, the reply bytes that are still needed. The tables are the claim's own,
+-- and not the machine's.
 use Rattle.std.specs.Prelude.{Bool, ◌||◌, ◌&&◌, cond, eqb, leb, List, [], ◌∷◌, ◌++◌, ℕ, zero, suc, ◌+◌}
 use Rattle.std.proofs.lemmas.List.Edits.{sets}
 use Rattle.session.specs.Bus.{byte}

@@ -1,4 +1,4 @@
--- Records of eight bytes, and what one record gives a session. 01, "Records and the list run".
+-- Records of eight bytes, and what one record gives a session. SCOPE 7.
 use Rattle.std.specs.Prelude.{Bool, cond, List, [], ◌∷◌, ℕ, ◌+◌, ◌*◌, ◌/◌, ◌%◌, eqb, length}
 use Rattle.session.specs.Bus.{pad_to}
 use Rattle.session.specs.Machine.{Session, Outcome, reply_def, begin_def, other_def}
@@ -9,7 +9,7 @@ pub data Record : Type 0 where
   reply : ℕ → List ℕ → Record
   other : Record
 
--- 01: "Call: 01, code, A (4 bytes), B (2), high byte first. [..] Reply: 02, failure code or 00, six data bytes"
+-- SCOPE 7.1: a call is 0x01, code, A in four bytes, B in two, high byte first; a reply is 0x02, failure code or 0, six data bytes
 abbrev pub record_of : ℕ → ℕ → ℕ → ℕ → ℕ → ℕ → ℕ → ℕ → Record
 record_of kind x b₂ b₃ b₄ b₅ b₆ b₇ =
     cond (eqb kind 0x01) (call x (b₂ * 16777216 + b₃ * 65536 + b₄ * 256 + b₅) (b₆ * 256 + b₇))
@@ -34,7 +34,7 @@ records_of (a ∷ b ∷ c ∷ d ∷ e ∷ f ∷ []) = []
 records_of (a ∷ b ∷ c ∷ d ∷ e ∷ f ∷ g ∷ []) = []
 records_of (a ∷ b ∷ c ∷ d ∷ e ∷ f ∷ g ∷ h ∷ l) = record_of a b c d e f g h ∷ records_of l
 
--- 01: "list length not a multiple of 8"
+-- SCOPE 8.2: a list whose length is no multiple of 8 is not run
 abbrev pub is_whole : List ℕ → Bool
 is_whole bytes = eqb (length bytes % 8) 0
 

@@ -1,4 +1,4 @@
--- 01's table of refusals, in plain numbers: conditions with their answers, and the first that holds decides.
+-- The refusals of SCOPE 9.1 and SCOPE 9.2, in plain numbers: conditions with their answers, and the first that holds decides.
 -- Its ranges, limits, lengths and ceilings are written down again here: with the machine it shares only what a session and a record are.
 use Rattle.std.specs.Prelude.{◌≡◌, Bool, true, false, not, ◌||◌, ◌&&◌, cond, List, [], ◌∷◌, ◌++◌, ℕ, eqb, ltb, leb, length, get_or, replicate}
 use Rattle.std.proofs.Math.Option.{Option, some, none}
@@ -8,7 +8,7 @@ use Rattle.session.specs.Bus.{zero_from, clean_from}
 use Rattle.session.specs.Machine.{Session}
 use Rattle.session.specs.Records.{Record, call, reply, other}
 
--- 01: "code 1..15, argument range, unused not zero": code, greatest A, greatest B
+-- SCOPE 5.1: code, greatest A, greatest B
 abbrev pub ranges : List (ℕ × ℕ × ℕ)
 ranges =
     (1, 255, 0)
@@ -124,7 +124,7 @@ pub record Underway (s : Session) : Type 0 where
   pub waiting : busy s ≡ true
   pub sound : first_match (of_session s) ≡ 0
 
--- 01: "Answers 5, 6 and the first 1 belong to an accepted call that makes no transfer": condition, answer, value
+-- SCOPE 9.3: 5, 6 and the first 1 are answers of an accepted call that makes no transfer: condition, answer, value
 abbrev pub at_once : ℕ → ℕ → ℕ → List (Bool × ℕ × ℕ)
 at_once code a b =
     (eqb code 3 && (ltb a 0x08 || ltb 0x77 a), 5, a)

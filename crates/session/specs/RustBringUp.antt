@@ -212,7 +212,7 @@ constructor address m = constructed (record { address = address; stop_variable =
 abbrev pub new : Script
 new = constructor 0x29 with_address
 
--- 01: "Done's value: the Rust's number for calls 2, 6, 7, 8 and 15; low × 65536 + high for call 11; else 0. `Ok(true)` is Done, `Ok(false)` answer 1."
+-- SCOPE 5.1: Done's value is the Rust's number, low × 65536 + high for two of them, and 0 for none. `Ok(true)` is Done, `Ok(false)` answer 1
 abbrev pub number : ℕ → Answer
 number n = Answer.Done n
 
@@ -226,7 +226,7 @@ unit u = Answer.Done 0
 abbrev pub pair : ℕ × ℕ → Answer
 pair p = Answer.Done (p.0 * 65536 + p.1)
 
--- 01: "Code, Rust function": the function of a call, with its arguments A and B; 0 has none
+-- SCOPE 5.1: the function of a call, by its code, with its arguments A and B; 0 has none
 abbrev pub Call : Type 0
 Call = Driver → ℕ → ℕ → Script
 

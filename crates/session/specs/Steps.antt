@@ -21,7 +21,7 @@ slot k c = byte k c.carried
 abbrev pub slot_word : ℕ → Context → ℕ
 slot_word k c = word_of (slot k c) (slot (k + 1) c)
 
--- 01: "Words are sent high byte first."
+-- SCOPE 4.1: words are sent high byte first
 abbrev pub word_bytes : ℕ → List ℕ
 word_bytes w = w / 256 % 256 ∷ w % 256 ∷ []
 
@@ -31,7 +31,7 @@ long_bytes w = w / 16777216 % 256 ∷ w / 65536 % 256 ∷ w / 256 % 256 ∷ w % 
 abbrev pub pass : Context → Verdict
 pass c = onward
 
--- 01: "Register writes read back as many bytes as the Rust asks (1; 6 for the map) and ignore them"
+-- SCOPE 4.1: a write to a register reads one byte back (six for the map, none in set_address), which is ignored
 abbrev pub writes : ℕ → (Context → List ℕ) → Op
 writes reg bytes = write reg bytes 1 0 pass
 
@@ -56,7 +56,7 @@ word_in x = result_unwrap_or x 0
 abbrev pub rate_in : Option ℕ → ℕ
 rate_in x = unwrap_or x 0
 
--- 01: "call 9 uses start 1320 and 2 × MSRC + 690"
+-- SCOPE 5.4: call 9 counts 2 × MSRC + 690
 abbrev pub dss_of_call9 : DssTerm
 dss_of_call9 = DssTerm.Once
 
@@ -67,7 +67,7 @@ budget_to_set k c = cond (eqb k second_slot) c.own c.a
 abbrev pub word_to_set : ℕ → Context → Result ℕ NoWord
 word_to_set k c = final_range_word (timing_in k c.carried) (record { 0 = budget_to_set k c }) dss_of_call9
 
--- 01: "It drops an answer 1 of its budget step": a bring-up leaps over the write, call 9 is answered 1
+-- SCOPE 5.2: an answer 1 of the budget step is dropped: a bring-up leaps over the write, call 9 is answered 1
 abbrev pub no_time : ℕ → Verdict
 no_time k = cond (eqb k second_slot) leap (stop declines)
 
@@ -75,11 +75,11 @@ no_time k = cond (eqb k second_slot) leap (stop declines)
 abbrev pub over_last : ℕ → ℕ
 over_last k = cond (eqb k second_slot) 1 0
 
--- 01: "call 9 below 20,000"
+-- SCOPE 5.5: a budget below 20,000 is answer 1
 abbrev pub too_short : ℕ → Bool
 too_short budget = ltb budget 20000
 
--- 01: "Budget reads, in order: 0x01, 0x51, 0x71, 0x50, 0x46, 0x70." Register, length and place among the eight bytes
+-- SCOPE 5.3: the budget reads by number: register, length and place among the eight bytes
 abbrev pub timing_register : ℕ → ℕ
 timing_register n = get_or (0x00 ∷ 0x01 ∷ 0x51 ∷ 0x71 ∷ 0x50 ∷ 0x46 ∷ 0x70 ∷ []) n 0
 
@@ -89,11 +89,11 @@ timing_length n = get_or (0 ∷ 1 ∷ 2 ∷ 2 ∷ 1 ∷ 1 ∷ 1 ∷ []) n 0
 abbrev pub timing_place : ℕ → ℕ
 timing_place n = get_or (0 ∷ 0 ∷ 1 ∷ 3 ∷ 5 ∷ 6 ∷ 7 ∷ []) n 0
 
--- 01: "an oscillator word of 0 leaves the period"
+-- SCOPE 5.7: an oscillator word of 0 leaves the period as it is
 abbrev pub timed_period : Context → ℕ
 timed_period c = cond (eqb (slot_word timing_slot c) 0) c.a (c.a * slot_word timing_slot c)
 
--- 01: "period × oscillator word above 32 bits is place 1"
+-- SCOPE 5.7: period × oscillator word above 32 bits is place 1
 abbrev pub period_too_long : Context → Bool
 period_too_long c = not (eqb (slot_word timing_slot c) 0) && ltb 4294967295 (c.a * slot_word timing_slot c)
 

@@ -43,7 +43,7 @@ pub struct Session {
     pub carried: [u8; 24],
 }
 
-// 01: "an address, 1..7 written bytes and a read length". The first `count` bytes of `written` are sent to `address`, then `reads` bytes
+// SCOPE 4.1: an address, 1 to 7 bytes to be written, a read length. The first `count` bytes of `written` are sent to `address`, then `reads` bytes
 // are read. The bytes of `written` after them are zero. `count` stands beside seven bytes because memory is fixed, and as callers in C read it.
 #[derive(Clone, Copy)]
 pub struct Transfer {
@@ -68,7 +68,7 @@ pub struct ReplyRecord {
     pub data: [u8; 6],
 }
 
-// 01's numbered answers, 0 to 15, in the names of lib.rs's Error where it has one. The first nine end a call, the others refuse a record or a list.
+// The answers of SCOPE 9.1, 0 to 15, in lib.rs's names where its Error has one. The first nine end a call, the others refuse a record or a list.
 // Places and failure codes are numbers here: functions that print an answer take every one.
 #[derive(Clone, Copy)]
 pub enum Answer {

@@ -1,4 +1,4 @@
--- Laws of the selection beside 01, "Detector map": where bit i stands, which bits are kept, that none is set, and how many are kept.
+-- Laws of the selection beside SCOPE 3.2: where bit i stands, which bits are kept, that none is set, and how many are kept.
 -- The map's bits are read in a row, where `keep` has a law for each place; the bytes are read back from them.
 use mathlib.Core.Path.{◌≡◌, refl, sym, ap, ◌∙◌}
 use mathlib.Core.Bool.{Bool, true, false, cond, ◌&&◌, and-true, and-false}
@@ -119,7 +119,7 @@ ones_bytes zero (x ∷ l) h = absurd (omega arith)
 ones_bytes (suc n) l h =
     rw (ones_byte, ones_bytes n (drop 8 l) (after_eight n l h), ← trues_append, take-append-drop)
 
--- ---- the laws of 01
+-- ---- the laws of SCOPE 3.2
 first_true : (a b c : Bool) → (a && b && c) ≡ true → a ≡ true
 first_true true b c h = refl
 first_true false b c h = h

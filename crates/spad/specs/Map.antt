@@ -1,9 +1,9 @@
--- The detector map and its selection. 01, "Detector map"; lib.rs: init_hardware, the loop over 48 bits.
+-- The detector map and its selection. SCOPE 3.2; lib.rs: init_hardware, the loop over 48 bits.
 use Rattle.std.specs.Prelude.{Bool, true, false, cond, List, [], ◌∷◌, ◌++◌, ℕ, zero, suc, ◌+◌, ◌-◌, ◌*◌, ◌/◌, ◌%◌, ◌^◌, eqb, take, drop, get_or}
 use Rattle.std.specs.Int.Count.{ones}
 use Rattle.spad.specs.declared.Selection.{Selection}
 
--- 01: "48 SPADs (detectors), bit i mod 8 of byte i / 8". A set bit is a good detector
+-- SCOPE 3.2: detector i is bit i mod 8 of byte i / 8. A set bit is a good detector
 abbrev pub is_good : List ℕ → ℕ → Bool
 is_good m i = eqb (get_or m (i / 8) 0 / 2 ^ (i % 8) % 2) 1
 
@@ -27,11 +27,11 @@ unfoldable pub map_bytes : ℕ → List Bool → List ℕ
 map_bytes zero l = []
 map_bytes (suc n) l = byte_of (take 8 l) ∷ map_bytes n (drop 8 l)
 
--- 01: "Start at 12 if the aperture flag is set, else 0"
+-- SCOPE 3.2: with the aperture flag the selection starts at detector 12, else at 0
 abbrev pub first_spad : Bool → ℕ
 first_spad aperture = cond aperture 12 0
 
--- 01: "Keep the first min(count, available) good bits, clear all others, set none".
+-- SCOPE 3.2: the first min(count, available) good detectors stay, every other bit is cleared, none is set.
 -- The first `skip` bits are cleared; of the bits after them the first `wanted` good ones are kept
 unfoldable pub keep : ℕ → ℕ → List Bool → List Bool
 keep skip wanted [] = []
@@ -49,8 +49,8 @@ unfoldable pub ones_in : List ℕ → ℕ
 ones_in [] = 0
 ones_in (b ∷ bs) = ones b + ones_in bs
 
--- 01: "The public selection (added) takes any byte as count under the same rule and also gives the number kept,
--- which is the count of ones in the new map"
+-- SCOPE 3.2: the public function takes any byte as count by the same rule, and also gives the number kept,
+-- which is the number of ones in the new map
 abbrev pub select_spads : List ℕ → ℕ → Bool → Selection
 select_spads m count aperture = record { map = selected m count aperture; kept = ones_in (selected m count aperture) }
 
@@ -59,7 +59,7 @@ unfoldable pub trues : List Bool → ℕ
 trues [] = 0
 trues (x ∷ xs) = cond x 1 0 + trues xs
 
--- 01: "available": how many good detectors there are from the start on
+-- SCOPE 3.2, available: how many good detectors there are from the start on
 abbrev pub available : List ℕ → Bool → ℕ
 available m aperture = trues (drop (first_spad aperture) (map_bits m))
 

@@ -26,7 +26,7 @@ reading reg n slot over = record { kind = Kind.Read; register = reg; reads = n; 
 abbrev pub awaiting : Kind → ℕ → Shape
 awaiting kind reg = record { kind = kind; register = reg; reads = 1; slot = 0; over = 0 }
 
--- 01: "Budget reads, in order: 0x01, 0x51, 0x71, 0x50, 0x46, 0x70.": the register, length and place of each, by its number
+-- SCOPE 5.3: the budget reads by number: register, length and place of each
 unfoldable pub timing_read : ℕ → TimingRead
 timing_read n = record { register = timing_register n; length = timing_length n; place = timing_place n }
 

@@ -1,4 +1,4 @@
--- The interrupt thresholds. 01, calls 10 and 11; lib.rs: set_interrupt_thresholds_mm, get_interrupt_thresholds_mm.
+-- The interrupt thresholds. SCOPE 5.9; lib.rs: set_interrupt_thresholds_mm, get_interrupt_thresholds_mm.
 use Rattle.std.specs.Prelude.{Bool, true, false, ◌||◌, ◌*◌, ◌/◌, ◌%◌, ltb, Result, Ok, Err}
 use Rattle.threshold.specs.declared.Millimeters.{Millimeters}
 use Rattle.threshold.specs.declared.RawThreshold.{RawThreshold}
@@ -17,6 +17,6 @@ abbrev pub refuse_if : Bool → Result Unit InvalidArgument
 refuse_if true = Err (record {})
 refuse_if false = Ok tt
 
--- 01: "call 10, low > high or either > 8190", answer 6
+-- SCOPE 5.9: low above high, or one of them above 8190, is answer 6
 abbrev pub check_thresholds : Millimeters → Millimeters → Result Unit InvalidArgument
 check_thresholds low high = refuse_if (ltb high.0 low.0 || ltb 8190 low.0 || ltb 8190 high.0)

@@ -15,7 +15,7 @@ timeout_place word = result_err (decoded_timeout word)
 unfoldable pub period_place : ℕ → Option Place
 period_place byte = result_err (decoded_vcsel_period byte)
 
--- 01: "Final less than pre while pre-range is on: place 3"
+-- SCOPE 5.3: fewer clocks than pre-range's, while pre-range is on, are place 3
 unfoldable pub less_place : TimingRegisters → Option Place
 less_place r =
     cond
@@ -23,14 +23,14 @@ less_place r =
     (Some Place.FinalBelowPre)
     None
 
--- 01: "0x46 plus 1 over 255: place 5"
+-- SCOPE 5.3: 0x46 plus 1 above 255 is place 5
 abbrev pub msrc_place : ℕ → Option Place
 msrc_place byte = cond (ltb 255 (byte + 1)) (Some Place.MsrcTimeout) None
 
 abbrev pub entry : ℕ → Option Place → Entry
 entry n p = record { needs = n; place = p }
 
--- 01: "Final less than pre [..]: place 3, right after 0x71. 0x46 plus 1 over 255: place 5. Then microseconds for MSRC, pre, final."
+-- SCOPE 5.3: each as soon as its reply is there, and the microseconds for MSRC, pre-range, final range after the last.
 -- lib.rs 656 to 688, line by line
 unfoldable pub entries_of : TimingRegisters → List Entry
 entries_of r =

@@ -3,11 +3,11 @@ use Rattle.std.specs.Prelude.{Bool, cond, List, ℕ, ◌+◌, ◌*◌, ◌/◌, 
 use Rattle.timing.specs.declared.TimingRegisters.{TimingRegisters}
 use Rattle.timing.specs.declared.SeqStepEnables.{SeqStepEnables}
 
--- 01: "Words are sent high byte first." lib.rs: read_16bit
+-- SCOPE 4.1: the high byte of a word comes first. lib.rs: read_16bit
 abbrev pub word_of : ℕ → ℕ → ℕ
 word_of high low = high * 256 + low
 
--- 01: "Budget reads, in order: 0x01, 0x51, 0x71, 0x50, 0x46, 0x70."
+-- SCOPE 5.3: the replies to 0x01, 0x51, 0x71, 0x50, 0x46, 0x70, in this order
 abbrev pub registers_of : List ℕ → TimingRegisters
 registers_of bytes = record {
   sequence = get_or bytes 0 0;

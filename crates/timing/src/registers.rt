@@ -25,7 +25,7 @@ pub fn timing_registers(bytes: [u8; 8]) -> TimingRegisters
     }
 }
 
-// The steps that the sequence byte turns on, each by its bit, as 01 counts bits.
+// The steps that the sequence byte turns on, each by its bit (SCOPE 5.3).
 pub fn sequence_step_enables(sequence: u8) -> SeqStepEnables
     ensures { result ≡ sequence_step_enables sequence }
 {

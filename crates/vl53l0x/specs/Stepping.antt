@@ -24,7 +24,7 @@ made_fresh l = record { session = placed session_size l.session (session_bytes f
 abbrev pub stepped : Lent → List ℕ → Lent
 stepped l r = record { session = step_session l.session r l.outcome; outcome = placed outcome_size l.outcome (step_outcome l.session r) }
 
--- 01: "Each record meets the session that the one before it left".
+-- SCOPE 8.1: each record meets the session that the one before it left.
 -- The session's bytes after the last of them, and what each left in the outcome, in order
 abbrev pub session_left : Lent → List (List ℕ) → List ℕ
 session_left l [] = l.session
