@@ -243,6 +243,17 @@ static void short_range(void)
     }
 }
 
+/* A sensor that is never ready ends a bring-up at the first of its waits. */
+static void never_ready(void)
+{
+    static struct state state;
+    uint8_t call[VL53L0X_RECORD_SIZE];
+    a_call(&state, call, VL53L0X_WITH_ADDRESS);
+    state.line.sensor.longest_wait = UINT32_MAX - 1;
+    CHECK(drive(&state, call) == VL53L0X_TIMEOUT);
+    CHECK(at_rest(&state) && state.line.transfers == 65561 && state.line.records == 65562);
+}
+
 /* Where no call waits there is nothing to go on with or to give up. */
 static void nothing_waits(void)
 {
@@ -343,6 +354,7 @@ int main(void)
 {
     calls();
     short_range();
+    never_ready();
     nothing_waits();
     recorded_before();
     plain_results();

@@ -96,7 +96,7 @@ static uint32_t call(struct reader *reader, uint8_t answer, uint8_t code, uint32
     return value(reader);
 }
 
-/* A single reading of what the sensor measures now or, if `distance` says another, of what is still pending in it. */
+/* One single reading, which has to be this distance. */
 static void expect_reading(struct reader *reader, uint16_t distance)
 {
     uint32_t range = call(reader, VL53L0X_DONE, VL53L0X_READ_RANGE_SINGLE_MILLIMETERS_BLOCKING, 0);

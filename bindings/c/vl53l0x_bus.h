@@ -15,18 +15,21 @@
  *
  * Here sessions have 52 bytes, records 8 and outcomes 11. What vl53l0x.h says of memory and threads holds here too.
  *
- * After a failure. The answers equal the Rust driver's, also where a caller would not expect them. The session is right
- * about what the driver knows; what the sensor has taken of a call that failed is not known.
+ * After a failure (VL53L0X_BUS_ERROR, VL53L0X_TIMEOUT). The answers equal the Rust driver's, also where a caller would
+ * not expect them. The session is right about what the driver knows; what the sensor has taken of the call is not known.
+ * A reading that broke after the measurement leaves its interrupt pending, and the next reading is Done at once with
+ * the old distance. A single reading, a start or a stop that broke may leave another page of registers selected: the
+ * next call writes to other registers, and is Done while the sensor has not taken the budget, the window or the limit.
  *
- *   - A reading that broke after the measurement leaves its interrupt pending, and the next reading is Done at once
- *     with the old distance. A call that broke while another page of registers was selected leaves it selected: the
- *     next call writes to other registers, and is Done while the sensor has not taken the budget, the window or the
- *     address.
- *     So after any call that failed (VL53L0X_BUS_ERROR, VL53L0X_TIMEOUT) make one single reading
- *     (VL53L0X_READ_RANGE_SINGLE_MILLIMETERS_BLOCKING) that is Done, throw its value away, and make the call again. It
- *     selects page 0 and clears the interrupt by its own writes.
- *   - A bring-up that failed may find no identity when it is made again, for the same reason, however often
- *     (VL53L0X_INVALID_DEVICE): call vl53l0x_select_page_0 before it.
+ *   - So make one single reading (VL53L0X_READ_RANGE_SINGLE_MILLIMETERS_BLOCKING) that is Done, throw its value away,
+ *     and then make the call again. It clears the interrupt and selects page 0 by its own writes.
+ *   - While the sensor measures continuously, a single reading would end that: throw away one continuous reading that
+ *     is Done. A start or a stop that failed is made again first, and then a reading of its kind is thrown away.
+ *   - A change of address that failed may have been taken. If nothing answers at the old address, bring the sensor up
+ *     at the new one (VL53L0X_WITH_ADDRESS).
+ *   - A bring-up that failed may find another identity when it is made again, however often (VL53L0X_INVALID_DEVICE):
+ *     the page is not 0. Call vl53l0x_select_page_0 before it is made again.
+ *   - A sensor that is never ready costs a bring-up 65,561 transfers before VL53L0X_TIMEOUT.
  *   - No call reads whether a range is valid. To the driver "out of range" is a number, as a rule some 8190 mm. A
  *     caller has to know which distances can be.
  *
