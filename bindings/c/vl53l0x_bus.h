@@ -16,10 +16,11 @@
  * Here sessions have 52 bytes, records 8 and outcomes 11. What vl53l0x.h says of memory and threads holds here too.
  *
  * After a failure (VL53L0X_BUS_ERROR, VL53L0X_TIMEOUT). The answers equal the Rust driver's, also where a caller would
- * not expect them. The session is right about what the driver knows; what the sensor has taken of the call is not known.
- * A reading that broke after the measurement leaves its interrupt pending, and the next reading is Done at once with
- * the old distance. A single reading, a start or a stop that broke may leave another page of registers selected: the
- * next call writes to other registers, and is Done while the sensor has not taken the budget, the window or the limit.
+ * not expect them. The session is right about what the driver knows; what the sensor has taken of the call is not
+ * known. A reading that broke after the measurement leaves its interrupt pending, and the next reading is Done at once
+ * with the old distance. A single reading, a start or a stop that broke may leave another page of registers selected:
+ * the next call writes to other registers, and is Done while the sensor has not taken the budget, the window or the
+ * limit.
  *
  *   - So make one single reading (VL53L0X_READ_RANGE_SINGLE_MILLIMETERS_BLOCKING) that is Done, throw its value away,
  *     and then make the call again. It clears the interrupt and selects page 0 by its own writes.
