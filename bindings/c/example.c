@@ -1,48 +1,85 @@
 /*
- * Brings up a simulated sensor and reads distances from it. Whatever the driver says is held to what the simulator
- * knows; the program ends with status 1 at the first difference.
+ * Brings up a simulated sensor and reads distances from it, also on a bus that fails. Whatever the driver says is held
+ * to what the simulator knows; the program ends with status 1 at the first difference. The argument, if there is one,
+ * names a file that every record is written to.
  */
 #include "simulator.h"
-#include "vl53l0x.h"
+#include "vl53l0x_bus.h"
 
 #include <stdio.h>
 #include <stdlib.h>
+
+/* The failure codes of this example's bus. */
+enum { BROKEN = 7, BUS_IS_GONE = 9 };
 
 struct reader {
     uint8_t session[VL53L0X_SESSION_SIZE];
     uint8_t outcome[VL53L0X_OUTCOME_SIZE];
     struct simulator sensor;
+    FILE *records; /* or null */
 };
 
 static void expect(const char *what, uint32_t found, uint32_t wanted)
 {
     if (found != wanted) {
-        printf("%s is %lu and has to be %lu\n", what, (unsigned long)found, (unsigned long)wanted);
+        fprintf(stderr, "%s is %lu and has to be %lu\n", what, (unsigned long)found, (unsigned long)wanted);
         exit(1);
     }
 }
 
-/*
- * Runs the call of a record to its answer. The replies are put where the record was. This loop is all that a program on
- * a real bus needs.
- */
+static void give_up(const char *what)
+{
+    perror(what);
+    exit(1);
+}
+
+/* The two functions of the bus; the context is the reader. */
+
+static int transfer(void *context, uint8_t address, const uint8_t *written, size_t count, uint8_t *read, size_t reads)
+{
+    struct reader *reader = (struct reader *)context;
+    uint8_t code = simulator_transfer(&reader->sensor, address, written, count, read, reads);
+    return code == 0 ? (int)reads : -code;
+}
+
+static void record_in_file(void *context, const uint8_t *record)
+{
+    struct reader *reader = (struct reader *)context;
+    if (reader->records != NULL && fwrite(record, VL53L0X_RECORD_SIZE, 1, reader->records) != 1) {
+        give_up("the file of records");
+    }
+}
+
+static struct vl53l0x_bus bus_of(struct reader *reader)
+{
+    struct vl53l0x_bus bus = {transfer, record_in_file, NULL};
+    bus.context = reader;
+    return bus;
+}
+
+static uint32_t transfers(const struct reader *reader)
+{
+    return vl53l0x_answer_transfers(reader->outcome);
+}
+
+static uint32_t value(const struct reader *reader)
+{
+    return vl53l0x_answer_value(reader->outcome);
+}
+
+/* Runs the call of a record on a bus. It has to make as many transfers as the simulator sees. */
+static uint8_t drive_on(struct reader *reader, const struct vl53l0x_bus *bus, uint8_t *record)
+{
+    uint32_t before = reader->sensor.transfers;
+    uint8_t answer = vl53l0x_drive(reader->session, bus, record, reader->outcome);
+    expect("the count of transfers", transfers(reader), reader->sensor.transfers - before);
+    return answer;
+}
+
 static uint8_t drive(struct reader *reader, uint8_t *record)
 {
-    uint8_t *outcome = reader->outcome;
-    while (vl53l0x_step(reader->session, sizeof reader->session, record, VL53L0X_RECORD_SIZE, outcome,
-                        VL53L0X_OUTCOME_SIZE) == VL53L0X_TRANSFER) {
-        uint8_t data[VL53L0X_MOST_READ];
-        uint8_t reads = vl53l0x_transfer_reads(outcome);
-        uint8_t failure =
-            simulator_transfer(&reader->sensor, vl53l0x_transfer_address(outcome), vl53l0x_transfer_written(outcome),
-                               vl53l0x_transfer_count(outcome), data, reads);
-        if (failure == 0) {
-            vl53l0x_put_reply(record, data, reads);
-        } else {
-            vl53l0x_put_failure(record, failure);
-        }
-    }
-    return outcome[0];
+    struct vl53l0x_bus bus = bus_of(reader);
+    return drive_on(reader, &bus, record);
 }
 
 static uint8_t drive_call(struct reader *reader, uint8_t code, uint32_t a)
@@ -52,28 +89,52 @@ static uint8_t drive_call(struct reader *reader, uint8_t code, uint32_t a)
     return drive(reader, record);
 }
 
-/* Runs one call that has to be answered so, after as many transfers as the simulator has seen. Returns its value. */
+/* Runs one call that has to be answered so. Returns its value. */
 static uint32_t call(struct reader *reader, uint8_t answer, uint8_t code, uint32_t a)
 {
-    uint32_t before = reader->sensor.transfers;
     expect("the answer", drive_call(reader, code, a), answer);
-    expect("the count of transfers", vl53l0x_answer_transfers(reader->outcome), reader->sensor.transfers - before);
-    return vl53l0x_answer_value(reader->outcome);
+    return value(reader);
 }
 
-static uint32_t transfers(const struct reader *reader)
+/* One single reading, which has to be this distance. */
+static void expect_reading(struct reader *reader, uint16_t distance)
 {
-    return vl53l0x_answer_transfers(reader->outcome);
+    uint32_t range = call(reader, VL53L0X_DONE, VL53L0X_READ_RANGE_SINGLE_MILLIMETERS_BLOCKING, 0);
+    expect("the single reading", range, distance);
 }
 
-static void bring_up(struct reader *reader)
+static uint8_t bring_up(struct reader *reader)
+{
+    uint8_t record[VL53L0X_RECORD_SIZE];
+    vl53l0x_put_new(record);
+    return drive(reader, record);
+}
+
+/* A bring-up that breaks on page 1 leaves the sensor there, where the next one finds no identity. */
+static void bring_up_after_failure(struct reader *reader)
 {
     const uint8_t *session = reader->session;
-    uint8_t record[VL53L0X_RECORD_SIZE];
+    const struct vl53l0x_bus bus = bus_of(reader);
+
     expect("what vl53l0x_fresh returns", vl53l0x_fresh(reader->session, sizeof reader->session), 0);
-    vl53l0x_put_new(record);
-    expect("the answer", drive(reader, record), VL53L0X_DONE);
-    expect("the count of transfers", transfers(reader), reader->sensor.transfers);
+    simulator_fail_after(&reader->sensor, 7, BROKEN);
+    expect("the answer", bring_up(reader), VL53L0X_BUS_ERROR);
+    expect("the failure code", value(reader), BROKEN);
+    expect("the transfer that broke", transfers(reader), 8);
+    expect("up", vl53l0x_session_up(session), 0);
+    printf("bring-up: the bus failed with code %lu at transfer %lu\n", (unsigned long)value(reader),
+           (unsigned long)transfers(reader));
+
+    expect("the answer", bring_up(reader), VL53L0X_INVALID_DEVICE);
+    expect("the page", reader->sensor.page, 1);
+    expect("the identity", value(reader), reader->sensor.pages[1][0xC0]);
+    printf("bring-up again: identity 0x%02X is not 0xEE, for the sensor is still on page 1\n", (unsigned)value(reader));
+
+    expect("the bus's result", (uint32_t)vl53l0x_select_page_0(&bus, VL53L0X_DEFAULT_ADDRESS), 0);
+    expect("the page", reader->sensor.page, 0);
+    printf("page 0 selected by hand\n");
+
+    expect("the answer", bring_up(reader), VL53L0X_DONE);
     expect("up", vl53l0x_session_up(session), 1);
     expect("the address", vl53l0x_session_address(session), reader->sensor.address);
     expect("the stop byte", vl53l0x_session_stop(session), reader->sensor.stop);
@@ -94,9 +155,9 @@ static void set_budget(struct reader *reader)
 static void read_single(struct reader *reader, uint16_t distance)
 {
     simulator_set_distance(&reader->sensor, distance);
-    uint32_t range = call(reader, VL53L0X_DONE, VL53L0X_READ_RANGE_SINGLE_MILLIMETERS_BLOCKING, 0);
-    expect("the single reading", range, distance);
-    printf("single reading: %lu mm after %lu transfers\n", (unsigned long)range, (unsigned long)transfers(reader));
+    expect_reading(reader, distance);
+    printf("single reading: %lu mm after %lu transfers\n", (unsigned long)value(reader),
+           (unsigned long)transfers(reader));
 }
 
 static void read_continuous(struct reader *reader, uint16_t distance)
@@ -107,57 +168,146 @@ static void read_continuous(struct reader *reader, uint16_t distance)
     printf("continuous reading: %lu mm after %lu transfers\n", (unsigned long)range, (unsigned long)transfers(reader));
 }
 
-/* The bus breaks one transfer in the middle of a reading; the same call made again succeeds. */
-static void read_with_failure(struct reader *reader)
+/*
+ * The sensor measures this distance, and the bus breaks the transfer that would clear the interrupt, the last but one
+ * of the reading. How many there are is found out on a copy.
+ */
+static void break_at_clearing(struct reader *reader, uint16_t distance)
 {
-    simulator_fail_after(&reader->sensor, 5, 7);
+    simulator_set_distance(&reader->sensor, distance);
+    struct reader copy = *reader;
+    copy.records = NULL;
+    expect_reading(&copy, distance);
+
+    simulator_fail_after(&reader->sensor, transfers(&copy) - 2, BROKEN);
     uint32_t code = call(reader, VL53L0X_BUS_ERROR, VL53L0X_READ_RANGE_SINGLE_MILLIMETERS_BLOCKING, 0);
-    expect("the failure code", code, 7);
+    expect("the failure code", code, BROKEN);
+    expect("the transfer that broke", transfers(reader), transfers(&copy) - 1);
+    expect("a pending interrupt", reader->sensor.ready, 1);
     expect("up", vl53l0x_session_up(reader->session), 1);
-    printf("single reading: the bus failed with code %lu at transfer %lu; trying again\n", (unsigned long)code,
-           (unsigned long)transfers(reader));
-    read_single(reader, 310);
 }
 
-/* A bus that breaks any transfer now and then: each reading is made until it succeeds. */
+/* A reading after one that broke may be the old one. With one single reading thrown away between them it is not. */
+static void read_after_failure(struct reader *reader)
+{
+    break_at_clearing(reader, 900);
+    printf("single reading at 900 mm: the bus failed with code %lu at transfer %lu, where the interrupt is cleared\n",
+           (unsigned long)value(reader), (unsigned long)transfers(reader));
+    simulator_set_distance(&reader->sensor, 100);
+    expect_reading(reader, 900);
+    printf("the roll moves to 100 mm; the same call again: %lu mm, which is the old reading\n",
+           (unsigned long)value(reader));
+
+    break_at_clearing(reader, 900);
+    simulator_set_distance(&reader->sensor, 100);
+    expect_reading(reader, 900);
+    uint32_t thrown_away = value(reader);
+    expect_reading(reader, 100);
+    printf("the same again, but one single reading is thrown away (%lu mm), then: %lu mm\n", (unsigned long)thrown_away,
+           (unsigned long)value(reader));
+}
+
+/* One single reading; false if the bus broke it. */
+static bool reading_is_done(struct reader *reader)
+{
+    uint8_t answer = drive_call(reader, VL53L0X_READ_RANGE_SINGLE_MILLIMETERS_BLOCKING, 0);
+    if (answer == VL53L0X_BUS_ERROR) {
+        expect("the failure code", value(reader), reader->sensor.last_failure);
+        return false;
+    }
+    expect("the answer", answer, VL53L0X_DONE);
+    return true;
+}
+
+/* A bus that breaks any transfer now and then. */
 static void read_on_noisy_bus(struct reader *reader)
 {
     uint32_t broken = 0;
     simulator_fail_one_in(&reader->sensor, 100);
     for (uint16_t distance = 100; distance < 150; distance++) {
         simulator_set_distance(&reader->sensor, distance);
-        while (drive_call(reader, VL53L0X_READ_RANGE_SINGLE_MILLIMETERS_BLOCKING, 0) == VL53L0X_BUS_ERROR) {
-            expect("the failure code", vl53l0x_answer_value(reader->outcome), reader->sensor.last_failure);
+        while (!reading_is_done(reader)) {
             broken++;
+            while (!reading_is_done(reader)) {
+            }
         }
-        expect("the answer", reader->outcome[0], VL53L0X_DONE);
-        expect("the single reading", vl53l0x_answer_value(reader->outcome), distance);
+        expect("the single reading", value(reader), distance);
     }
     simulator_fail_one_in(&reader->sensor, 0);
-    printf("one transfer in 100 fails: 50 single readings are right, %lu were broken off before\n",
+    printf("one transfer in 100 fails: 50 single readings are right, with one thrown away after each of the %lu that "
+           "broke\n",
            (unsigned long)broken);
 }
 
-int main(void)
+/* The first transfer of a reading is out and cannot be made. */
+static void abandon_reading(struct reader *reader)
+{
+    const struct vl53l0x_bus bus = bus_of(reader);
+    uint8_t record[VL53L0X_RECORD_SIZE];
+    vl53l0x_put_call(record, VL53L0X_READ_RANGE_SINGLE_MILLIMETERS_BLOCKING, 0, 0);
+    expect("the outcome", vl53l0x_hand_in(reader->session, &bus, record, reader->outcome), VL53L0X_TRANSFER);
+    expect("the answer", vl53l0x_abandon(reader->session, &bus, BUS_IS_GONE, reader->outcome), VL53L0X_BUS_ERROR);
+    expect("the failure code", value(reader), BUS_IS_GONE);
+    expect("the count of transfers", transfers(reader), 1);
+    expect("the call that waits", vl53l0x_session_code(reader->session), 0);
+    printf("the bus is gone: the call that waits is given up with code %lu after %lu transfer\n",
+           (unsigned long)value(reader), (unsigned long)transfers(reader));
+}
+
+static void read_with_plain_writes(struct reader *reader, uint16_t distance)
+{
+    struct vl53l0x_bus inner = bus_of(reader);
+    struct vl53l0x_bus plain = {vl53l0x_plain_writes, vl53l0x_plain_writes_recorder, NULL};
+    uint8_t record[VL53L0X_RECORD_SIZE];
+    plain.context = &inner;
+
+    simulator_set_distance(&reader->sensor, distance);
+    vl53l0x_put_call(record, VL53L0X_READ_RANGE_SINGLE_MILLIMETERS_BLOCKING, 0, 0);
+    expect("the answer", drive_on(reader, &plain, record), VL53L0X_DONE);
+    expect("the single reading", value(reader), distance);
+    printf("with plain writes: single reading %lu mm after %lu transfers\n", (unsigned long)value(reader),
+           (unsigned long)transfers(reader));
+}
+
+static void read_continuously(struct reader *reader)
+{
+    call(reader, VL53L0X_DONE, VL53L0X_START_CONTINUOUS, 50);
+    printf("continuous readings, one in 50 ms: started\n");
+    read_continuous(reader, 88);
+    read_continuous(reader, 89);
+    read_continuous(reader, 640);
+    call(reader, VL53L0X_DONE, VL53L0X_STOP_CONTINUOUS, 0);
+    printf("continuous readings: stopped\n");
+}
+
+int main(int argc, char **argv)
 {
     static struct reader reader;
+    if (argc > 2) {
+        fprintf(stderr, "usage: example [FILE FOR RECORDS]\n");
+        return 2;
+    }
+    if (argc == 2 && (reader.records = fopen(argv[1], "wb")) == NULL) {
+        give_up(argv[1]);
+    }
     simulator_power_up(&reader.sensor, 1);
 
-    bring_up(&reader);
+    bring_up_after_failure(&reader);
     set_budget(&reader);
     read_single(&reader, 505);
     read_single(&reader, 1207);
-    read_with_failure(&reader);
+    read_after_failure(&reader);
     read_on_noisy_bus(&reader);
-
-    call(&reader, VL53L0X_DONE, VL53L0X_START_CONTINUOUS, 50);
-    printf("continuous readings, one in 50 ms: started\n");
-    read_continuous(&reader, 88);
-    read_continuous(&reader, 89);
-    read_continuous(&reader, 640);
-    call(&reader, VL53L0X_DONE, VL53L0X_STOP_CONTINUOUS, 0);
-    printf("continuous readings: stopped\n");
-
+    abandon_reading(&reader);
+    read_with_plain_writes(&reader, 640);
+    read_continuously(&reader);
     printf("%lu transfers in all; every distance is the simulator's\n", (unsigned long)reader.sensor.transfers);
+
+    if (fclose(stdout) != 0) {
+        give_up("standard output");
+    }
+    if (reader.records != NULL && fclose(reader.records) != 0) {
+        give_up(argv[1]);
+    }
     return 0;
 }

@@ -1,19 +1,6 @@
 /* The header: its functions against the layout, and its numbers against the library. Compiles as C and as C++. */
+#include "check.h"
 #include "vl53l0x.h"
-
-#include <stdio.h>
-
-static int failures;
-
-static void check(int holds, int line)
-{
-    if (!holds) {
-        printf("header_test.c: line %d does not hold\n", line);
-        failures++;
-    }
-}
-
-#define CHECK(condition) check((condition), __LINE__)
 
 static int same(const uint8_t *bytes, const uint8_t *expected, size_t count)
 {
@@ -24,26 +11,14 @@ static void records(void)
 {
     static const uint8_t call[] = {1, 10, 0x12, 0x34, 0x56, 0x78, 0x9A, 0xBC};
     static const uint8_t bring_up[] = {1, 1, 0, 0, 0, 0x29, 0, 0};
-    static const uint8_t reply[] = {2, 0, 1, 2, 3, 4, 5, 6};
-    static const uint8_t word[] = {2, 0, 1, 2, 0, 0, 0, 0};
-    static const uint8_t nothing[] = {2, 0, 0, 0, 0, 0, 0, 0};
     static const uint8_t failure[] = {2, 7, 0, 0, 0, 0, 0, 0};
     static const uint8_t no_kind[VL53L0X_RECORD_SIZE] = {0};
-    static const uint8_t data[] = {1, 2, 3, 4, 5, 6, 7};
     uint8_t record[VL53L0X_RECORD_SIZE];
 
     vl53l0x_put_call(record, VL53L0X_SET_INTERRUPT_THRESHOLDS_MM, 0x12345678, 0x9ABC);
     CHECK(same(record, call, sizeof call));
     vl53l0x_put_new(record);
     CHECK(same(record, bring_up, sizeof bring_up));
-    vl53l0x_put_reply(record, data, 6);
-    CHECK(same(record, reply, sizeof reply));
-    vl53l0x_put_reply(record, data, 2);
-    CHECK(same(record, word, sizeof word));
-    vl53l0x_put_reply(record, data, 0);
-    CHECK(same(record, nothing, sizeof nothing));
-    vl53l0x_put_reply(record, data, 7);
-    CHECK(same(record, no_kind, sizeof no_kind));
     vl53l0x_put_failure(record, 7);
     CHECK(same(record, failure, sizeof failure));
     vl53l0x_put_failure(record, 0);
@@ -111,13 +86,12 @@ static uint8_t fail(uint8_t *session, uint8_t code)
     return step(session, record);
 }
 
+/* A good reply whose first byte and last, at this count, are as given. */
 static uint8_t reply(uint8_t *session, uint8_t byte, size_t count)
 {
-    static uint8_t data[VL53L0X_MOST_READ + 1];
-    uint8_t record[VL53L0X_RECORD_SIZE];
-    data[0] = byte;
-    data[count - 1] = byte;
-    vl53l0x_put_reply(record, data, count);
+    uint8_t record[VL53L0X_RECORD_SIZE] = {2};
+    record[2] = byte;
+    record[1 + count] = byte;
     return step(session, record);
 }
 
@@ -143,7 +117,6 @@ static void numbers(void)
     CHECK(vl53l0x_outstanding(session, sizeof session, outcome, sizeof outcome - 1) == VL53L0X_NO_OUTCOME);
     CHECK(begin(session, VL53L0X_WHO_AM_I, 0, 0) == VL53L0X_CALL_WAITS);
     CHECK(reply(session, 1, 2) == VL53L0X_STRAY_BYTE);
-    CHECK(reply(session, 1, 7) == VL53L0X_ILL_FORMED_RECORD);
     CHECK(fail(session, 0) == VL53L0X_ILL_FORMED_RECORD);
     vl53l0x_put_failure(record, 7);
     CHECK(vl53l0x_step(session, sizeof session, record, sizeof record - 1, outcome, sizeof outcome) ==
@@ -222,6 +195,85 @@ static void timeout(void)
     CHECK(reply(session, 0, 1) == VL53L0X_TIMEOUT);
 }
 
+/*
+ * Goes through a call of a sensor that is up, with replies of the identity's byte, to its first transfer that reads so
+ * many bytes. There a reply with any other count of them is refused.
+ */
+static void reply_counts(uint8_t code, uint8_t a, uint8_t reads)
+{
+    static const uint8_t data[] = {0xEE, 0xEE, 0xEE, 0xEE, 0xEE, 0xEE, 0xEE};
+    uint8_t session[VL53L0X_SESSION_SIZE], kept[VL53L0X_SESSION_SIZE];
+    uint8_t outcome[VL53L0X_OUTCOME_SIZE], again[VL53L0X_OUTCOME_SIZE];
+    uint8_t record[VL53L0X_RECORD_SIZE];
+
+    vl53l0x_fresh(session, sizeof session);
+    session[0] = 1; /* up */
+    CHECK(begin(session, code, a, 0) == VL53L0X_TRANSFER);
+    vl53l0x_outstanding(session, sizeof session, outcome, sizeof outcome);
+    while (outcome[0] == VL53L0X_TRANSFER && vl53l0x_transfer_reads(outcome) != reads) {
+        vl53l0x_put_reply_to(record, outcome, data, vl53l0x_transfer_reads(outcome));
+        vl53l0x_step(session, sizeof session, record, sizeof record, outcome, sizeof outcome);
+    }
+    CHECK(outcome[0] == VL53L0X_TRANSFER);
+
+    memcpy(kept, session, sizeof kept);
+    for (size_t count = 0; count <= sizeof data; count++) {
+        vl53l0x_put_reply_to(record, outcome, data, count);
+        if (count == reads) {
+            CHECK(record[0] == 2 && record[1] == 0 && same(record + 2, data, count));
+            CHECK(count == VL53L0X_MOST_READ || record[2 + count] == 0);
+            uint8_t next = step(session, record);
+            CHECK(next == VL53L0X_DONE || (next == VL53L0X_TRANSFER && !same(session, kept, sizeof kept)));
+            memcpy(session, kept, sizeof kept);
+        } else {
+            CHECK(step(session, record) == VL53L0X_ILL_FORMED_RECORD);
+            CHECK(same(session, kept, sizeof kept));
+            CHECK(vl53l0x_outstanding(session, sizeof session, again, sizeof again) == VL53L0X_TRANSFER);
+            CHECK(same(again, outcome, sizeof again));
+        }
+    }
+}
+
+/* To an answer there is no reply, of whatever count. */
+static void no_reply_to_an_answer(void)
+{
+    static const uint8_t data[VL53L0X_MOST_READ] = {0};
+    static const uint8_t no_kind[VL53L0X_RECORD_SIZE] = {0};
+    for (uint8_t number = 0; number < VL53L0X_TRANSFER; number++) {
+        for (uint8_t count = 0; count <= VL53L0X_MOST_READ; count++) {
+            uint8_t outcome[VL53L0X_OUTCOME_SIZE] = {0};
+            uint8_t record[VL53L0X_RECORD_SIZE];
+            outcome[0] = number;
+            outcome[10] = count;
+            vl53l0x_put_reply_to(record, outcome, data, count);
+            CHECK(same(record, no_kind, sizeof record));
+        }
+    }
+}
+
+static void replies(void)
+{
+    reply_counts(VL53L0X_SET_ADDRESS, 0x30, 0);
+    reply_counts(VL53L0X_WHO_AM_I, 0, 1);
+    reply_counts(VL53L0X_GET_INTERRUPT_THRESHOLDS_MM, 0, 2);
+    reply_counts(VL53L0X_WITH_ADDRESS, VL53L0X_DEFAULT_ADDRESS, 6);
+    no_reply_to_an_answer();
+}
+
+static void texts(void)
+{
+    for (unsigned i = 0; i <= VL53L0X_NO_OUTCOME; i++) {
+        const char *text = vl53l0x_answer_text((uint8_t)i);
+        CHECK(text[0] != 0);
+        for (unsigned k = i + 1; k <= 255; k++) {
+            CHECK(strcmp(text, vl53l0x_answer_text((uint8_t)k)) != 0);
+        }
+    }
+    for (unsigned k = VL53L0X_NO_OUTCOME + 1; k <= 255; k++) {
+        CHECK(strcmp(vl53l0x_answer_text((uint8_t)k), "no number of the library") == 0);
+    }
+}
+
 int main(void)
 {
     records();
@@ -230,6 +282,8 @@ int main(void)
     numbers();
     calls();
     timeout();
+    replies();
+    texts();
     if (failures == 0) {
         printf("the header agrees with the layout and the library\n");
     }

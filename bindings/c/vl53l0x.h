@@ -1,12 +1,13 @@
 /*
- * The proved VL53L0X driver (crate vl53l0x) for C99 and C++.
+ * The proved VL53L0X driver (crate vl53l0x) for C99 and C++. Today the library is for x86-64 Linux.
  *
- * The library makes no transfer itself. A caller keeps a session, hands it records and does what each outcome says:
+ * The library makes no transfer itself. A caller keeps a session, hands it records and does what each outcome says.
+ * vl53l0x_bus.h does that on a bus; step by step it goes so:
  *
  *   1. vl53l0x_fresh makes a session.
  *   2. vl53l0x_step is handed the record of a call (vl53l0x_put_call), first of all a bring-up (vl53l0x_put_new).
  *   3. While it returns VL53L0X_TRANSFER, the caller makes that transfer on the bus and hands in the record of its
- *      reply (vl53l0x_put_reply or vl53l0x_put_failure). Anything else that it returns is the answer.
+ *      reply (vl53l0x_put_reply_to or vl53l0x_put_failure). Anything else that it returns is the answer.
  *
  * Memory: session, record and outcome belong to the caller. The library has no memory of its own, allocates nothing
  * and keeps no pointer. Each pointer is not null, stands for as many bytes as the length after it says, and what a
@@ -171,21 +172,6 @@ static inline void vl53l0x_put_new(uint8_t *record)
 }
 
 /*
- * The reply to a transfer that succeeded, with the bytes that it read: as many as vl53l0x_transfer_reads says. With
- * more than six the record is of no kind, which vl53l0x_step refuses (VL53L0X_ILL_FORMED_RECORD).
- */
-static inline void vl53l0x_put_reply(uint8_t *record, const uint8_t *data, size_t count)
-{
-    memset(record, 0, VL53L0X_RECORD_SIZE);
-    if (count <= VL53L0X_MOST_READ) {
-        record[0] = 2;
-        if (count > 0) {
-            memcpy(record + 2, data, count);
-        }
-    }
-}
-
-/*
  * The reply to a transfer that failed. The code, 1 to 255, is the caller's own; it comes back as the value of
  * VL53L0X_BUS_ERROR. With code 0 the record is of no kind, which vl53l0x_step refuses.
  */
@@ -231,6 +217,22 @@ static inline uint8_t vl53l0x_transfer_reads(const uint8_t *outcome)
     return outcome[10];
 }
 
+/*
+ * The record of a good reply to the transfer of an outcome, with the bytes that it read. Unless the outcome is a
+ * transfer and `count` is what it reads, the record is of no kind, which vl53l0x_step refuses
+ * (VL53L0X_ILL_FORMED_RECORD): a reply that is cut short becomes no distance.
+ */
+static inline void vl53l0x_put_reply_to(uint8_t *record, const uint8_t *outcome, const uint8_t *data, size_t count)
+{
+    memset(record, 0, VL53L0X_RECORD_SIZE);
+    if (outcome[0] == VL53L0X_TRANSFER && count == vl53l0x_transfer_reads(outcome)) {
+        record[0] = 2;
+        if (count > 0) {
+            memcpy(record + 2, data, count);
+        }
+    }
+}
+
 /* An outcome that is an answer: byte 0 is 0 to 15. */
 
 static inline uint32_t vl53l0x_answer_value(const uint8_t *outcome)
@@ -242,6 +244,32 @@ static inline uint32_t vl53l0x_answer_value(const uint8_t *outcome)
 static inline uint32_t vl53l0x_answer_transfers(const uint8_t *outcome)
 {
     return vl53l0x_get_low_first_32(outcome + 5);
+}
+
+/* What the functions return, and byte 0 of an outcome, in words. */
+static inline const char *vl53l0x_answer_text(uint8_t number)
+{
+    static const char *const texts[] = {
+        "done",
+        "the sensor cannot do that: the budget is too short, or the limit out of range",
+        "the device is no VL53L0X: its identity is not 0xEE",
+        "the bus failed",
+        "the sensor was not ready after the most reads of a wait",
+        "the address is not from 0x08 to 0x77",
+        "the thresholds are in the wrong order or above 8190 mm",
+        "no reading is ready yet",
+        "the Rust driver's arithmetic panics here",
+        "refused: the sensor has not been brought up",
+        "refused: a call waits for its reply",
+        "refused: no call waits for a reply",
+        "refused: the reply has bytes that were not read",
+        "refused: the record is no call and no reply, or has arguments out of range",
+        "refused: the record is not 8 bytes long",
+        "refused: the session is none, or says that a call waits and is none that waits in it",
+        "a transfer is to be made",
+        "the outcome is not 11 bytes long",
+    };
+    return number < sizeof texts / sizeof *texts ? texts[number] : "no number of the library";
 }
 
 /* A session. The first four are zero while the sensor is not up. */

@@ -1,0 +1,189 @@
+/*
+ * Calls of the VL53L0X driver on a bus, for C99 and C++.
+ *
+ *   static int transfer(void *context, uint8_t address, const uint8_t *written, size_t count, uint8_t *read,
+ *                       size_t reads) { ... }
+ *
+ *   const struct vl53l0x_bus bus = {transfer, NULL, NULL};
+ *   uint8_t session[VL53L0X_SESSION_SIZE], record[VL53L0X_RECORD_SIZE], outcome[VL53L0X_OUTCOME_SIZE];
+ *   vl53l0x_fresh(session, sizeof session);
+ *   vl53l0x_put_new(record);
+ *   if (vl53l0x_drive(session, &bus, record, outcome) == VL53L0X_DONE) {
+ *       vl53l0x_put_call(record, VL53L0X_READ_RANGE_SINGLE_MILLIMETERS_BLOCKING, 0, 0);
+ *       if (vl53l0x_drive(session, &bus, record, outcome) == VL53L0X_DONE) {
+ *           ... vl53l0x_answer_value(outcome) are the millimetres
+ *
+ * Here sessions have 52 bytes, records 8 and outcomes 11. What vl53l0x.h says of memory and threads holds here too.
+ *
+ * After a failure (VL53L0X_BUS_ERROR, VL53L0X_TIMEOUT). The answers equal the Rust driver's, also where a caller would
+ * not expect them. The session is right about what the driver knows; what the sensor has taken of the call is not
+ * known. A reading that broke after the measurement leaves its interrupt pending, and the next reading is Done at once
+ * with the old distance. A single reading, a start or a stop that broke may leave another page of registers selected:
+ * the next call writes to other registers, and is Done while the sensor has not taken the budget, the window or the
+ * limit.
+ *
+ *   - So make one single reading (VL53L0X_READ_RANGE_SINGLE_MILLIMETERS_BLOCKING) that is Done, throw its value away,
+ *     and then make the call again. It clears the interrupt and selects page 0 by its own writes.
+ *   - While the sensor measures continuously, a single reading would end that: throw away one continuous reading that
+ *     is Done. A start or a stop that failed is made again first, and then a reading of its kind is thrown away.
+ *   - A change of address that failed may have been taken. If nothing answers at the old address, bring the sensor up
+ *     at the new one (VL53L0X_WITH_ADDRESS).
+ *   - A bring-up that failed may find another identity when it is made again, however often (VL53L0X_INVALID_DEVICE):
+ *     the page is not 0. Call vl53l0x_select_page_0 before it is made again.
+ *   - A sensor that is never ready costs a bring-up 65,561 transfers before VL53L0X_TIMEOUT.
+ *   - No call reads whether a range is valid. To the driver "out of range" is a number, as a rule some 8190 mm. A
+ *     caller has to know which distances can be.
+ *
+ * Records. The records that a recorder was handed, one after the other from a fresh session on, are a file for the
+ * program rolltrace, which prints every transfer and answer of them again.
+ */
+#ifndef VL53L0X_BUS_H
+#define VL53L0X_BUS_H
+
+#include "vl53l0x.h"
+
+#ifdef __cplusplus
+extern "C" {
+#endif
+
+/* The failure code of a transfer that read another count of bytes than asked. Codes of a bus's own are 1 to 254. */
+enum { VL53L0X_SHORT_READ = 255 };
+
+/*
+ * Makes one transfer: writes `count` bytes to a device and then reads `reads` bytes from it, at most as many; with 0 it
+ * is a write alone. Returns how many bytes it has read (0 for a write alone), or minus a failure code.
+ */
+typedef int vl53l0x_transfer(void *context, uint8_t address, const uint8_t *written, size_t count, uint8_t *read,
+                             size_t reads);
+
+/* Is handed every record before the session is. */
+typedef void vl53l0x_recorder(void *context, const uint8_t *record);
+
+struct vl53l0x_bus {
+    vl53l0x_transfer *transfer;
+    vl53l0x_recorder *recorder; /* or null */
+    void *context;              /* handed to both */
+};
+
+/* Hands a record to the recorder and then to the session, as vl53l0x_step does. The bus may be null. */
+static inline uint8_t vl53l0x_hand_in(uint8_t *session, const struct vl53l0x_bus *bus, const uint8_t *record,
+                                      uint8_t *outcome)
+{
+    if (bus != NULL && bus->recorder != NULL) {
+        bus->recorder(bus->context, record);
+    }
+    return vl53l0x_step(session, VL53L0X_SESSION_SIZE, record, VL53L0X_RECORD_SIZE, outcome, VL53L0X_OUTCOME_SIZE);
+}
+
+/*
+ * Makes the transfer of an outcome, and the record of its reply. If the bus returns neither the count that was asked
+ * for nor a failure, the transfer has failed with VL53L0X_SHORT_READ.
+ */
+static inline void vl53l0x_make_transfer(const struct vl53l0x_bus *bus, const uint8_t *outcome, uint8_t *record)
+{
+    uint8_t data[VL53L0X_MOST_READ] = {0};
+    uint8_t reads = vl53l0x_transfer_reads(outcome);
+    int result = bus->transfer(bus->context, vl53l0x_transfer_address(outcome), vl53l0x_transfer_written(outcome),
+                               vl53l0x_transfer_count(outcome), data, reads);
+    if (result == reads) {
+        vl53l0x_put_reply_to(record, outcome, data, reads);
+    } else if (result >= -255 && result < 0) {
+        vl53l0x_put_failure(record, (uint8_t)-result);
+    } else {
+        vl53l0x_put_failure(record, VL53L0X_SHORT_READ);
+    }
+}
+
+/*
+ * Hands a record in and makes every transfer up to the answer; the records of the replies are put where it was. The
+ * outcome is the answer. Returns its byte 0.
+ */
+static inline uint8_t vl53l0x_drive(uint8_t *session, const struct vl53l0x_bus *bus, uint8_t *record, uint8_t *outcome)
+{
+    while (vl53l0x_hand_in(session, bus, record, outcome) == VL53L0X_TRANSFER) {
+        vl53l0x_make_transfer(bus, outcome, record);
+    }
+    return outcome[0];
+}
+
+/*
+ * Takes a waiting call up again, of a session that was put away: makes the transfer that is out, and drives the call to
+ * its answer. Where no call waits, the outcome is that of vl53l0x_outstanding and no transfer is made.
+ */
+static inline uint8_t vl53l0x_go_on(uint8_t *session, const struct vl53l0x_bus *bus, uint8_t *outcome)
+{
+    uint8_t record[VL53L0X_RECORD_SIZE];
+    if (vl53l0x_outstanding(session, VL53L0X_SESSION_SIZE, outcome, VL53L0X_OUTCOME_SIZE) != VL53L0X_TRANSFER) {
+        return outcome[0];
+    }
+    vl53l0x_make_transfer(bus, outcome, record);
+    return vl53l0x_drive(session, bus, record, outcome);
+}
+
+/*
+ * Ends a waiting call where the bus is gone: every transfer that it still asks for fails with this code, 1 to 254, and
+ * the answer is VL53L0X_BUS_ERROR. That is one record, or two where the range read of a reading is out, after which its
+ * interrupt is still to be cleared. Of the bus, which may be null, only the recorder is used. Where no call waits, the
+ * outcome is that of vl53l0x_outstanding. With code 0 the record is refused (VL53L0X_ILL_FORMED_RECORD), and the call
+ * still waits.
+ */
+static inline uint8_t vl53l0x_abandon(uint8_t *session, const struct vl53l0x_bus *bus, uint8_t code, uint8_t *outcome)
+{
+    uint8_t record[VL53L0X_RECORD_SIZE];
+    vl53l0x_outstanding(session, VL53L0X_SESSION_SIZE, outcome, VL53L0X_OUTCOME_SIZE);
+    while (outcome[0] == VL53L0X_TRANSFER) {
+        vl53l0x_put_failure(record, code);
+        vl53l0x_hand_in(session, bus, record, outcome);
+    }
+    return outcome[0];
+}
+
+/*
+ * The transfer function of a bus that leaves a read out where it belongs to a register write; the context is the inner
+ * bus, a struct vl53l0x_bus. The Rust driver makes each register write as a write and a read of as many bytes, and does
+ * not look at them. Here the write is made alone, and zeros stand for what was not read. The transfers are no longer
+ * the Rust driver's; the answers are.
+ */
+static inline int vl53l0x_plain_writes(void *context, uint8_t address, const uint8_t *written, size_t count,
+                                       uint8_t *read, size_t reads)
+{
+    const struct vl53l0x_bus *inner = (const struct vl53l0x_bus *)context;
+    if (count == 1 || reads == 0) {
+        return inner->transfer(inner->context, address, written, count, read, reads);
+    }
+    int result = inner->transfer(inner->context, address, written, count, read, 0);
+    if (result > 0) {
+        return -VL53L0X_SHORT_READ;
+    }
+    if (result == 0) {
+        memset(read, 0, reads);
+        return (int)reads;
+    }
+    return result;
+}
+
+/* The recorder of a bus with vl53l0x_plain_writes: that of the inner bus, if it has one. */
+static inline void vl53l0x_plain_writes_recorder(void *context, const uint8_t *record)
+{
+    const struct vl53l0x_bus *inner = (const struct vl53l0x_bus *)context;
+    if (inner->recorder != NULL) {
+        inner->recorder(inner->context, record);
+    }
+}
+
+/*
+ * Selects page 0 of a sensor's registers by one write alone, outside every session: only while no call waits on that
+ * sensor. Returns what the bus does, 0 or minus a failure code. It is no record, and no recorder sees it.
+ */
+static inline int vl53l0x_select_page_0(const struct vl53l0x_bus *bus, uint8_t address)
+{
+    static const uint8_t page_0[] = {0xFF, 0x00};
+    uint8_t nothing[1] = {0};
+    return bus->transfer(bus->context, address, page_0, sizeof page_0, nothing, 0);
+}
+
+#ifdef __cplusplus
+}
+#endif
+
+#endif
