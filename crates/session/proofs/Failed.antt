@@ -1,18 +1,20 @@
 -- A failed reply ends its call, except a failed range read, in every waiting session.
 use mathlib.Core.Path.{◌≡◌, refl, sym, ap, ◌∙◌}
 use mathlib.Core.Bool.{Bool, true, false, not, ◌&&◌, cond}
-use mathlib.Core.List.{List}
+use mathlib.Core.List.{List, [], ◌∷◌}
 use Prim.Native.Nat.{ℕ, zero, suc}
 use lib.Dec.{eqb, leb}
-use Rattle.session.specs.Bus.{Answer, bad}
-use Rattle.session.specs.Instructions.{Op, write, read, wait, range, send_of, report_of}
+use lib.ListN.{drop}
+use Rattle.session.specs.Bus.{Answer, Transfer, bad}
+use Rattle.session.specs.Instructions.{Context, Final, success, failure, Op, write, read, wait, range, send_of, report_of}
 use Rattle.session.specs.Steps.{op_of}
-use Rattle.session.specs.Calls.{tuning, programs, program_of}
-use Rattle.session.specs.Machine.{Session, Outcome, answered, resting, context_of, react, stray}
-use Rattle.session.specs.Claim3.{reported}
+use Rattle.session.specs.Calls.{tuning, programs, ops_of, program_of}
+use Rattle.session.specs.Machine.{Session, Outcome, sent, answered, refused, broken, resting, context_of, kept_of, sending, conclude, enter, arrive, react, stray}
+use Rattle.session.specs.Records.{reply, step_def}
+use Rattle.session.specs.Claim3.{reports_read, reported}
 use Rattle.session.specs.Parts.{reads_range_at}
-use Rattle.session.specs.AnySession.{failure_reported, fields_left, FailureEnds}
-use Rattle.session.proofs.Facts.{both, untrue}
+use Rattle.session.specs.AnySession.{failure_reported, fields_left, FailureEnds, GivenUp}
+use Rattle.session.proofs.Facts.{both, clash, untrue}
 use Rattle.session.proofs.Table.{of_test}
 use Rattle.session.proofs.Refused.{sound_of}
 use Rattle.session.proofs.Shape.{is_range, same_bool, same_bool_lem}
@@ -62,3 +64,68 @@ failure_ends s (suc e) bs u h z r =
     go (read reg len slot over after) q w = ap ends (unwritten (eqb s.code 6) (reported s.code s.failed (suc e)) (suc e) ∙ ap (λ b. cond b (reported s.code s.failed (suc e)) (suc e)) (sym w))
     go (wait x) q w = ap ends (unwritten (eqb s.code 6) (reported s.code s.failed (suc e)) (suc e) ∙ ap (λ b. cond b (reported s.code s.failed (suc e)) (suc e)) (sym w))
     go range q w = untrue q
+
+-- no range read comes after a range read
+abbrev after_ok : ℕ → StepTest
+after_ok code k i is = not (reads_range_at code k && reads_range_at code (suc k))
+
+none_follows : (code : ℕ) → walk (after_ok code) 0 (program_of code).steps ≡ true
+unfolding programs tuning
+none_follows = of_test (λ k p. walk (after_ok k) 0 p.steps) (λ k. refl) refl
+
+not_both : (b : Bool) → not (true && b) ≡ true → b ≡ false
+not_both true h = untrue h
+not_both false h = refl
+
+abbrev after : Outcome → Session → Session
+after (sent t s) d = s
+after (answered x n s) d = d
+after (refused x s) d = d
+after (broken s) d = d
+
+-- what is out after a failed range read
+next_out : (fin : Context → Final) (l : List Op) (k : ℕ) (s s' : Session) (t : Transfer) → enter fin l k s ≡ sent t s' → s' ≡ sending k 0 s
+next_out fin [] k s s' t h = concludes (fin (context_of s)) h
+  where
+    concludes : (v : Final) → conclude v s ≡ sent t s' → s' ≡ sending k 0 s
+    concludes (success v d) h = clash cc
+    concludes (failure e) h = clash cc
+next_out fin (op ∷ ops) k s s' t h = ap (λ o. after o s) (sym h)
+
+one_code : (b : Bool) (code f : ℕ) → cond b (reported code f f) f ≡ f
+one_code true code zero = refl
+one_code true code (suc f) = same (reports_read code)
+  where
+    same : (c : Bool) → cond c (suc f) (suc f) ≡ suc f
+    same true = refl
+    same false = refl
+one_code false code f = refl
+
+pub given_up : (s : Session) (f : ℕ) (bs bs' : List ℕ) → GivenUp s f bs bs'
+unfolding arrive
+given_up s zero bs bs' t s' u h z z' e u' = absurd (h refl)
+given_up s (suc c) bs bs' t s' u h z z' e u' = go (reads_range_at s.code s.step) refl
+  where
+    ends : Session → ℕ → Outcome
+    ends s x = answered (Answer.BusError x) s.transfers (resting (fields_left s))
+
+    reached : (op : Op) → true ≡ is_range op → react op (program_of s.code) s (bad c) ≡ sent t s' → s' ≡ sending (suc s.step) 0 (kept_of s range (bad c))
+    reached (write reg bytes len over after) q e = untrue (sym q)
+    reached (read reg len slot over after) q e = untrue (sym q)
+    reached (wait w) q e = untrue (sym q)
+    reached range q e = next_out (program_of s.code).final (drop (suc s.step) (ops_of (program_of s.code))) (suc s.step) (kept_of s range (bad c)) s' t e
+
+    ended : s' ≡ sending (suc s.step) 0 (kept_of s range (bad c)) → reads_range_at s.code (suc s.step) ≡ false → step_def s' (reply (suc c) bs') ≡ ends s' (suc c)
+    ended e r =
+        let e' : reads_range_at s'.code s'.step ≡ false = ap (λ (x : Session). reads_range_at x.code x.step) e ∙ r in
+        failure_ends s' (suc c) bs' u' h z' e'
+        ∙ ap (ends s') (ap (λ (n : ℕ). cond (eqb s'.code 6 && leb 2 s'.step) (reported s'.code n (suc c)) (suc c)) (ap (λ (x : Session). x.failed) e) ∙ one_code (eqb s'.code 6 && leb 2 s'.step) s'.code (suc c))
+
+    go : (b : Bool) → reads_range_at s.code s.step ≡ b → step_def s' (reply (suc c) bs') ≡ ends s' (suc c)
+    go false r = clash (cc (failure_ends s (suc c) bs u h z r, e))
+    go true r =
+        instruction_there s (sound_of s u).1 (λ i is at.
+        let q = both (same_bool (reads_range_at s.code s.step) (is_range (op_of i))) _ (walk_at (failed_ok s.code) (program_of s.code).steps s.step i is (all_ok s.code) at) in
+        let n : stray (send_of (op_of i) (context_of s)) (suc c) bs ≡ false = stray_is (send_of (op_of i) (context_of s)) (suc c) bs ∙ ap not z in
+        let l : not (reads_range_at s.code s.step && reads_range_at s.code (suc s.step)) ≡ true = walk_at (after_ok s.code) (program_of s.code).steps s.step i is (none_follows s.code) at in
+        ended (reached (op_of i) (sym r ∙ same_bool_lem _ _ q.0) (rw n at (sym (met_at s s.code s.step i is (suc c) bs refl refl u at) ∙ e))) (not_both _ (rw r at l)))

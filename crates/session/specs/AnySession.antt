@@ -181,6 +181,17 @@ FailureEnds s f bs =
     → reads_range_at s.code s.step ≡ false
     → step_def s (reply f bs) ≡ answered (Answer.BusError (failure_reported s f)) s.transfers (resting (fields_left s))
 
+-- a call that is given up: where a failed reply does not end it, a second one with the same code does
+abbrev pub GivenUp : Session → ℕ → List ℕ → List ℕ → Type 0
+GivenUp s f bs bs' =
+    (t : Transfer) (s' : Session) → Underway s
+    → (f ≡ 0 → ⊥)
+    → zero_from 0 bs ≡ true
+    → zero_from 0 bs' ≡ true
+    → step_def s (reply f bs) ≡ sent t s'
+    → Underway s'
+    → step_def s' (reply f bs') ≡ answered (Answer.BusError f) s'.transfers (resting (fields_left s'))
+
 -- the transfer that is out is made of its parts, and of nothing else
 abbrev pub SentFrom : Session → Session → Type 0
 SentFrom s s' = Underway s → Underway s' → AgreeOn (sent_from s.code s.step) s s' → outstanding s ≡ outstanding s'
