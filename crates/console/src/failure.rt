@@ -24,7 +24,7 @@ impl fmt::Display for Failure {
 
 // A signal came before any byte did; or a descriptor that does not block has none yet, or takes none yet: then it is left alone for a
 // thousandth of a second.
-pub fn wants_another_try<C: Clock>(clock: &C, e: &Error) -> bool
+pub(crate) fn wants_another_try<C: Clock>(clock: &C, e: &Error) -> bool
     ensures { result ≡ wants_another_try (error_kind e.now) }
 {
     match e.kind() {
@@ -38,7 +38,7 @@ pub fn wants_another_try<C: Clock>(clock: &C, e: &Error) -> bool
 }
 
 // No read or write of the standard library promises that it succeeds after so many tries.
-pub fn too_many_turns() -> Error
+pub(crate) fn too_many_turns() -> Error
     ensures { error_kind result ≡ ErrorKind.TimedOut }
 {
     Error::new(ErrorKind::TimedOut, "gave up after 2^64 turns")
