@@ -1,8 +1,8 @@
 //! A sensor with its session, calls that break on it, and what a caller does then.
 
 use std::num::NonZeroU8;
-use vl53l0x_session::{drive, Answer, Call, Session};
-use vl53l0x_simulator::{Failure, Simulator, Wait};
+use vl53l0x_session::{drive, select_page_0, Answer, Call, Session, DEFAULT_ADDRESS};
+use vl53l0x_simulator::{Failure, Simulator, Wait, NOBODY_ANSWERS};
 
 pub const SINGLE: Call = Call::ReadRangeSingleMillimetersBlocking;
 pub const CONTINUOUS: Call = Call::ReadRangeContinuousMillimetersBlocking;
@@ -33,9 +33,15 @@ impl Rig {
     /// A sensor that is up. Its measurements are never over when they are first looked at; how long they take differs
     /// from seed to seed.
     pub fn up(seed: u64) -> Self {
+        Rig::up_with(seed, None)
+    }
+
+    /// The same, where the first measurement is looked at in vain so often.
+    pub fn up_with(seed: u64, first: Option<u32>) -> Self {
         let mut rig = Rig::new(seed);
         assert_eq!(rig.call(Call::NEW), Answer::Done(0));
         rig.sensor.set_distance(BEFORE);
+        first.into_iter().for_each(|idle| rig.sensor.plan_wait(Wait::Status, idle));
         for _ in 0..16 {
             rig.sensor.plan_wait(Wait::Start, (seed % 3) as u32);
             rig.sensor.plan_wait(Wait::Status, 1 + (seed % 5) as u32);
@@ -104,8 +110,30 @@ impl Rig {
         [self.clone(), self.paused()]
     }
 
-    /// A single reading thrown away, a pause, the interrupt cleared. The roll moves in the pause.
-    pub fn recovered(self) -> Self {
+    /// Page 0 is selected by hand, or nobody answers: after call 3 the sensor may be at another address.
+    pub fn selected(mut self) -> Self {
+        let mut bus = |address: u8, write: &[u8], read: &mut [u8]| self.sensor.transfer(address, write, read);
+        assert!(matches!(select_page_0(&mut bus, DEFAULT_ADDRESS), Ok(()) | Err(NOBODY_ANSWERS)));
+        self
+    }
+
+    /// One single reading is thrown away; in a pause after it the roll moves; the interrupt is cleared.
+    pub fn thrown_away_and_cleared(self) -> Self {
         self.after(SINGLE).moved(MEANWHILE).paused().after(Call::ClearInterruptStatus)
+    }
+
+    /// The recipe of bindings/README.md for a call that broke while nothing is measured continuously.
+    pub fn recovered(self) -> Self {
+        self.selected().thrown_away_and_cleared()
+    }
+
+    /// Whether a call is Done with a value.
+    pub fn gives(mut self, call: Call, value: u16) -> bool {
+        self.call(call) == Answer::Done(value.into())
+    }
+
+    /// Every register of the sensor.
+    pub fn registers(&self) -> Vec<u8> {
+        (0..8).flat_map(|page| (0..=255).map(move |at| self.sensor.register(page, at))).collect()
     }
 }

@@ -61,36 +61,41 @@ fn is_lost(mut rig: Rig, setting: Call, taken: &[u8]) -> Option<bool> {
 
 /// Any call breaks, and then something is set.
 pub fn the_next_setting(table: &mut Table) {
-    let mut lost: BTreeMap<usize, Count> = BTreeMap::new();
-    let mut by_call: BTreeMap<u8, Count> = BTreeMap::new();
-    let (mut thrown, mut recovered) = <(Count, Count)>::default();
+    let (mut lost, mut by_call) = (BTreeMap::<u8, Count>::new(), BTreeMap::<u8, Count>::new());
+    let (mut thrown, mut by_hand, mut recovered) = <(Count, Count, Count)>::default();
     for seed in SEEDS {
         for call in BROKEN {
             let ready = ready_for(call, seed);
-            for (index, setting) in SETTINGS.into_iter().enumerate() {
+            for setting in SETTINGS {
                 let mut whole = ready.clone();
                 assert_eq!(whole.call(setting), Answer::Done(0));
                 let taken = set(setting, &whole.sensor);
                 for (rig, _) in ready.broken(call) {
                     if let Some(is_lost) = is_lost(rig.clone(), setting, &taken) {
-                        lost.entry(index).or_default().add(is_lost);
+                        lost.entry(setting.record()[1]).or_default().add(is_lost);
                         by_call.entry(call.record()[1]).or_default().add(is_lost);
                     }
-                    is_lost(rig.clone().after(SINGLE), setting, &taken).into_iter().for_each(|so| thrown.add(so));
-                    is_lost(rig.recovered(), setting, &taken).into_iter().for_each(|so| recovered.add(so));
+                    for (rig, count) in [
+                        (rig.clone().after(SINGLE), &mut thrown),
+                        (rig.clone().selected(), &mut by_hand),
+                        (rig.recovered(), &mut recovered),
+                    ] {
+                        is_lost(rig, setting, &taken).into_iter().for_each(|so| count.add(so));
+                    }
                 }
             }
         }
     }
-    table.title("each of calls 2 to 15 broken at each transfer, in both ways; then a setting that is Done");
-    for (index, count) in &lost {
-        table.count(&format!("not taken: {:?}", SETTINGS[*index]), *count);
+    table.title("each of calls 2 to 15 broken; then a setting that is Done");
+    for (code, count) in &lost {
+        table.at_times(&format!("not taken by the sensor: call {code}"), *count);
     }
-    for (code, count) in by_call.iter().filter(|(_, count)| count.is_some()) {
-        table.count(&format!("    not taken after call {code}"), *count);
+    for (code, count) in by_call.iter().filter(|(_, count)| count.so > 0) {
+        table.count(&format!("  where call {code} broke"), *count);
     }
-    table.count("not taken after one single reading thrown away", thrown);
-    table.count("not taken after that, a pause and the interrupt cleared", recovered);
+    table.never("not taken: one single reading thrown away first", thrown);
+    table.never("not taken: page 0 by hand first", by_hand);
+    table.never("not taken: page 0 by hand, one thrown away, a pause, call 13 first", recovered);
 }
 
 /// Call 3 breaks: the sensor may be at either address.
@@ -105,11 +110,10 @@ pub fn after_set_address(table: &mut Table) {
             } else {
                 rig.call(Call::SetAddress(0x30));
             }
-            let mut rig = rig.moved(AFTER);
-            found.add(rig.session.address() == 0x30 && rig.call(SINGLE) == Answer::Done(AFTER.into()));
+            found.add(rig.session.address() == 0x30 && rig.moved(AFTER).gives(SINGLE, AFTER));
         }
     }
-    table.title("call 3 broken, in both ways");
-    table.count("nobody answers at the old address", gone);
-    table.count("a bring-up at the new address there, else call 3 again; read: right", found);
+    table.title("call 3 broken; then call 2");
+    table.at_times("BusError: nobody answers at the old address", gone);
+    table.always("right: there a bring-up at the new address, else call 3 again, and a single reading", found);
 }
