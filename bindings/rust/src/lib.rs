@@ -68,7 +68,71 @@
 //!
 //! # After a failure
 //!
-//! TO BE WRITTEN
+//! That is after any answer of [`Answer::BusError`] or [`Answer::Timeout`]. The answers equal the Rust driver's, also
+//! where a caller would not expect them: the session is right about what the driver knows, but what the *sensor* has
+//! taken of the call is not known, and the next call may be [`Answer::Done`] and wrong.
+//!
+//! - A single reading that broke may leave its interrupt pending, or a measurement under way that leaves it pending
+//!   later. The next single reading then answers at once with the *old* distance. Its own measurement ends after that,
+//!   so the reading after it may be one behind too, and so on.
+//! - A single reading, a start or a stop that broke may leave page 1 of the registers selected. What the next call sets
+//!   goes to other registers; it is Done, and the sensor has not taken it.
+//! - A bring-up that broke may leave another page selected too. Every bring-up after it is [`Answer::InvalidDevice`].
+//!
+//! What to do, each step until it is Done, and from the first one again where it is not:
+//!
+//! - While nothing is measured continuously: select page 0 by hand, make one single reading and throw its value away,
+//!   wait for longer than a measurement takes, clear the interrupt. Then make the call again.
+//! - While the sensor measures continuously, calls 6 and 7: make one reading by
+//!   [`Call::ReadRangeContinuousMillimetersBlocking`] and throw its value away. A single reading would stop the
+//!   measurements.
+//! - A start of continuous measurements: select page 0 by hand, start again, throw one reading away.
+//! - A stop: select page 0 by hand, stop again, then as while nothing is measured continuously.
+//! - A change of address: if the sensor does not answer at the old address, bring it up at the new one.
+//! - A bring-up: select page 0 by hand, then bring up again.
+//!
+//! ```
+//! use std::{thread::sleep, time::Duration};
+//! use vl53l0x_session::{drive, select_page_0, Answer, Bus, Call, Session};
+//!
+//! /// After a call that broke while nothing is measured continuously.
+//! fn recover(session: &mut Session, bus: &mut impl Bus) -> Result<(), Answer> {
+//!     select_page_0(bus, session.address()).map_err(Answer::BusError)?;
+//!     drive(session, bus, Call::ReadRangeSingleMillimetersBlocking).0.into_result()?;
+//!     sleep(2 * Duration::from_micros(session.budget().into()));
+//!     drive(session, bus, Call::ClearInterruptStatus).0.into_result()?;
+//!     Ok(())
+//! }
+//! # use core::{cell::RefCell, num::NonZeroU8};
+//! # let sensor = RefCell::new(vl53l0x_simulator::Simulator::new(1));
+//! # let mut bus = |address: u8, write: &[u8], read: &mut [u8]| sensor.borrow_mut().transfer(address, write, read);
+//! # let mut session = Session::new();
+//! # let mut single = |session: &mut Session, bus: &mut _| {
+//! #     drive(session, bus, Call::ReadRangeSingleMillimetersBlocking).0
+//! # };
+//! # assert_eq!(drive(&mut session, &mut bus, Call::NEW).0, Answer::Done(0));
+//! # for recovers in [false, true] {
+//! #     sensor.borrow_mut().set_distance(900);
+//! #     sensor.borrow_mut().fail_after(9, NonZeroU8::MIN);
+//! #     assert_eq!(single(&mut session, &mut bus), Answer::BusError(NonZeroU8::MIN));
+//! #     sensor.borrow_mut().pass_time();
+//! #     sensor.borrow_mut().set_distance(100);
+//! #     if recovers {
+//! #         assert_eq!(recover(&mut session, &mut bus), Ok(()));
+//! #     }
+//! #     assert_eq!(single(&mut session, &mut bus), Answer::Done(if recovers { 100 } else { 900 }));
+//! # }
+//! ```
+//!
+//! And at any time:
+//!
+//! - No call reads the range status. "Out of range" is a number to the driver, as a rule some 8190 mm. A caller has to
+//!   know which distances can be.
+//! - A sensor that is never ready is answered [`Answer::Timeout`] only after many transfers: a bring-up makes up to
+//!   85,684, which is 8.4 s at 400 kHz, a single reading up to 20,008, which is 2 s.
+//!
+//! How often all this happens and that the recipes help was measured on a simulated sensor: bindings/README.md.
+
 #![no_std]
 #![deny(missing_docs)]
 #![deny(unsafe_code)]

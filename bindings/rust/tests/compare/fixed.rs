@@ -64,7 +64,7 @@ fn new() {
         let mut sensor = Simulator::new(seed);
         let mut spoil = |_: &[u8], _: &mut [u8]| ();
         let mut bus = Bus::new(&mut sensor, &mut spoil);
-        let fields = VL53L0x::new(&mut bus).map(|chip| inner::fields(&chip)).ok().expect("no failure");
+        let fields = VL53L0x::new(&mut bus).map(|chip| inner::fields(&chip)).expect("no failure");
         let Fields { stop_variable, measurement_timing_budget_microseconds, address } = fields;
 
         let mut session = Session::new();
