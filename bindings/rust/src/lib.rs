@@ -92,14 +92,13 @@
 //! - A bring-up: select page 0 by hand, then bring up again.
 //!
 //! ```
-//! use std::{thread::sleep, time::Duration};
 //! use vl53l0x_session::{drive, select_page_0, Answer, Bus, Call, Session};
 //!
-//! /// After a call that broke while nothing is measured continuously.
-//! fn recover(session: &mut Session, bus: &mut impl Bus) -> Result<(), Answer> {
+//! /// After a call that broke while nothing is measured continuously. `wait` lets so many microseconds pass.
+//! fn recover(session: &mut Session, bus: &mut impl Bus, wait: impl FnOnce(u32)) -> Result<(), Answer> {
 //!     select_page_0(bus, session.address()).map_err(Answer::BusError)?;
 //!     drive(session, bus, Call::ReadRangeSingleMillimetersBlocking).0.into_result()?;
-//!     sleep(2 * Duration::from_micros(session.budget().into()));
+//!     wait(2 * session.budget());
 //!     drive(session, bus, Call::ClearInterruptStatus).0.into_result()?;
 //!     Ok(())
 //! }
@@ -107,20 +106,19 @@
 //! # let sensor = RefCell::new(vl53l0x_simulator::Simulator::new(1));
 //! # let mut bus = |address: u8, write: &[u8], read: &mut [u8]| sensor.borrow_mut().transfer(address, write, read);
 //! # let mut session = Session::new();
-//! # let mut single = |session: &mut Session, bus: &mut _| {
-//! #     drive(session, bus, Call::ReadRangeSingleMillimetersBlocking).0
-//! # };
 //! # assert_eq!(drive(&mut session, &mut bus, Call::NEW).0, Answer::Done(0));
 //! # for recovers in [false, true] {
 //! #     sensor.borrow_mut().set_distance(900);
 //! #     sensor.borrow_mut().fail_after(9, NonZeroU8::MIN);
-//! #     assert_eq!(single(&mut session, &mut bus), Answer::BusError(NonZeroU8::MIN));
+//! #     let single = Call::ReadRangeSingleMillimetersBlocking;
+//! #     assert_eq!(drive(&mut session, &mut bus, single).0, Answer::BusError(NonZeroU8::MIN));
+//! #     sensor.borrow_mut().pass_time();
+//! #     if recovers {
+//! #         assert_eq!(recover(&mut session, &mut bus, |_| sensor.borrow_mut().pass_time()), Ok(()));
+//! #     }
 //! #     sensor.borrow_mut().pass_time();
 //! #     sensor.borrow_mut().set_distance(100);
-//! #     if recovers {
-//! #         assert_eq!(recover(&mut session, &mut bus), Ok(()));
-//! #     }
-//! #     assert_eq!(single(&mut session, &mut bus), Answer::Done(if recovers { 100 } else { 900 }));
+//! #     assert_eq!(drive(&mut session, &mut bus, single).0, Answer::Done(if recovers { 100 } else { 900 }));
 //! # }
 //! ```
 //!
