@@ -7,14 +7,17 @@ const FOLDER: &str = "VL53L0X_LIB_DIR";
 
 fn main() {
     println!("cargo:rerun-if-env-changed={FOLDER}");
-    let folder = match env::var_os(FOLDER) {
-        Some(folder) => absolute(folder.into()),
-        None => PathBuf::from(env!("CARGO_MANIFEST_DIR")).join("../../crates/vl53l0x/out"),
+    let (folder, hint) = match env::var_os(FOLDER).filter(|folder| !folder.is_empty()) {
+        Some(folder) => (absolute(folder.into()), format!("{FOLDER} names that folder; an absolute path is safest")),
+        None => {
+            let folder = PathBuf::from(env!("CARGO_MANIFEST_DIR")).join("../../crates/vl53l0x/out");
+            (folder, format!("run `rt lib` in crates/vl53l0x, or set {FOLDER}"))
+        }
     };
     let archive = folder.join("libvl53l0x.a");
     println!("cargo:rerun-if-changed={}", archive.display());
     if !archive.is_file() {
-        panic!("there is no {}: run `rt lib` in crates/vl53l0x, or set {FOLDER}", archive.display());
+        panic!("there is no {}: {hint}", archive.display());
     }
     println!("cargo:rustc-link-search=native={}", folder.display());
     println!("cargo:rustc-link-lib=static=vl53l0x");
