@@ -79,22 +79,24 @@
 //!   goes to other registers; it is Done, and the sensor has not taken it.
 //! - A bring-up that broke may leave another page selected too. Every bring-up after it is [`Answer::InvalidDevice`].
 //!
-//! What to do, each step until it is Done, and from the first one again where it is not:
+//! What to do. Each step has to be Done; where one is not, begin with the first again.
 //!
-//! - While nothing is measured continuously: select page 0 by hand, make one single reading and throw its value away,
-//!   wait for longer than a measurement takes, clear the interrupt. Then make the call again.
-//! - While the sensor measures continuously, calls 6 and 7: make one reading by
+//! - A single reading, [`Call::ReadRangeSingleMillimetersBlocking`]: select page 0 by hand, make one single reading and
+//!   throw its value away, wait for longer than a measurement takes, clear the interrupt. Then read.
+//! - A reading while the sensor measures continuously: make one reading by
 //!   [`Call::ReadRangeContinuousMillimetersBlocking`] and throw its value away. A single reading would stop the
 //!   measurements.
 //! - A start of continuous measurements: select page 0 by hand, start again, throw one reading away.
-//! - A stop: select page 0 by hand, stop again, then as while nothing is measured continuously.
-//! - A change of address: if the sensor does not answer at the old address, bring it up at the new one.
+//! - A stop: select page 0 by hand, stop again, then as after a single reading.
+//! - A change of address: if nobody answers at the old address, bring the sensor up at the new one; else change it
+//!   again.
 //! - A bring-up: select page 0 by hand, then bring up again.
+//! - Any other call: make it again.
 //!
 //! ```
 //! use vl53l0x_session::{drive, select_page_0, Answer, Bus, Call, Session};
 //!
-//! /// After a call that broke while nothing is measured continuously. `wait` lets so many microseconds pass.
+//! /// After a single reading that broke. `wait` lets so many microseconds pass.
 //! fn recover(session: &mut Session, bus: &mut impl Bus, wait: impl FnOnce(u32)) -> Result<(), Answer> {
 //!     select_page_0(bus, session.address()).map_err(Answer::BusError)?;
 //!     drive(session, bus, Call::ReadRangeSingleMillimetersBlocking).0.into_result()?;

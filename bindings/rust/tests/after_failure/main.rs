@@ -81,7 +81,8 @@ fn what_follows_a_failure() {
     ));
     table.0.push("the transfer is not made, or it is made and its reply is lost".to_string());
     readings::the_same_reading_again(&mut table);
-    readings::after_any_call(&mut table);
+    readings::the_recipe_breaks(&mut table);
+    readings::after_other_calls(&mut table);
     readings::after_a_timeout(&mut table);
     readings::while_continuous(&mut table);
     readings::started_or_stopped(&mut table);

@@ -5,11 +5,10 @@ use crate::{Count, Table, SEEDS};
 use std::collections::BTreeMap;
 use vl53l0x_session::{Answer, Call, GpioFunctionality, GpioPolarity};
 
-/// Useful calls while nothing is measured continuously. Call 3 is looked at in settings.rs: after it the sensor may be
-/// at either address.
-const AT_REST: [Call; 9] = [
+/// The calls that measure nothing and select no page, but for call 3 (settings.rs), after which the sensor may be at
+/// another address.
+const OTHERS: [Call; 8] = [
     Call::WhoAmI,
-    SINGLE,
     Call::SetMeasurementTimingBudget(60_000),
     Call::SetInterruptThresholdsMm(200, 400),
     Call::GetInterruptThresholdsMm,
@@ -64,16 +63,23 @@ fn stays_behind(rig: &Rig) -> bool {
 /// Call 8 breaks, the roll moves, and call 8 is made again.
 pub fn the_same_reading_again(table: &mut Table) {
     for (later, when) in ["at once", "after a pause"].into_iter().enumerate() {
-        let (mut old, mut ways, mut places) = (Count::default(), Ways::default(), BTreeMap::new());
+        let (mut old, mut behind, mut ways, mut places) = <(Count, Count, Ways, BTreeMap<_, Count>)>::default();
+        let (mut same, mut by_hand) = <(Count, Count)>::default();
         for seed in SEEDS {
-            for (rig, place) in Rig::up(seed).broken(SINGLE) {
+            let up = Rig::up(seed);
+            let whole = up.clone().after(SINGLE).registers();
+            for (rig, place) in up.broken(SINGLE) {
                 let rig = &rig.at_once_and_later()[later];
                 let answer = rig.clone().moved(AFTER).call(SINGLE);
                 let is_old = answer == Answer::Done(BEFORE.into());
                 assert!(is_old || answer == Answer::Done(AFTER.into()), "{answer}");
                 old.add(is_old);
-                places.entry(place).or_insert_with(Count::default).add(is_old);
+                places.entry(place).or_default().add(is_old);
+                behind.add(stays_behind(rig));
                 ways.add(rig);
+                let read = |rig: Rig| rig.moved(BEFORE).after(SINGLE).registers();
+                same.add(read(rig.clone().thrown_away_and_cleared()) == whole);
+                by_hand.add(read(rig.clone().recovered()) == whole);
             }
         }
         table.title(&format!("call 8 broken at 900 mm; the roll moves to 100 mm; {when} call 8 again"));
@@ -81,35 +87,50 @@ pub fn the_same_reading_again(table: &mut Table) {
         for (place, count) in places.iter().filter(|(_, count)| count.so > 0) {
             table.count(&format!("  where it broke at {place}"), *count);
         }
+        table.at_times("old, and the nine after it are one behind, with a pause after each", behind);
         ways.show(table);
+        table.at_times("all registers as if nothing broke: one thrown away, a pause, call 13, the next one", same);
+        table.always("the same with page 0 by hand first", by_hand);
     }
 }
 
-/// Any call that reads or sets something breaks. At last it is made again: the sensor has to be as if nothing had
-/// been.
-pub fn after_any_call(table: &mut Table) {
-    let (mut again, mut behind, mut ways) = <(Count, Count, Ways)>::default();
-    let (mut same, mut by_hand) = <(Count, Count)>::default();
+/// Call 8 breaks, then a call of the recipe breaks too, and the recipe is begun again.
+pub fn the_recipe_breaks(table: &mut Table) {
+    let mut right = Count::default();
     for seed in SEEDS {
-        let up = Rig::up(seed);
-        for call in AT_REST {
-            let made = |rig: Rig| rig.moved(AFTER).after(call).after(SINGLE).registers();
-            let whole = made(up.clone().after(call).recovered());
-            for rig in up.broken(call).flat_map(|(rig, _)| rig.at_once_and_later()) {
-                again.add(rig.clone().moved(AFTER).gives(SINGLE, AFTER));
-                behind.add(stays_behind(&rig));
-                ways.add(&rig);
-                same.add(made(rig.clone().thrown_away_and_cleared()) == whole);
-                by_hand.add(made(rig.recovered()) == whole);
+        for rig in Rig::up(seed).broken(SINGLE).flat_map(|(rig, _)| rig.at_once_and_later()) {
+            let first = rig.selected().moved(MEANWHILE);
+            let last = first.clone().after(SINGLE).paused();
+            for (rig, call) in [(first, SINGLE), (last, Call::ClearInterruptStatus)] {
+                for rig in rig.broken(call).flat_map(|(rig, _)| rig.at_once_and_later()) {
+                    right.add(rig.recovered().moved(AFTER).gives(SINGLE, AFTER));
+                }
             }
         }
     }
-    table.title("each of calls 2 and 8 to 15 broken; the roll moves; at once or after a pause a single reading");
-    table.at_times("right", again);
-    table.at_times("wrong, as are the nine after it: each is one behind, with a pause after each", behind);
-    ways.show(table);
-    table.at_times("the call made again, all registers as if nothing broke: after one thrown away, call 13", same);
-    table.always("the same with page 0 by hand first", by_hand);
+    table.title("call 8 broken; page 0 by hand; then call 8 or 13 of the recipe broken too");
+    table.always("right: page 0 by hand, one thrown away, a pause, call 13, the next one", right);
+}
+
+/// Calls that measure nothing and select no page. Made again, the sensor has to be as if nothing had been.
+pub fn after_other_calls(table: &mut Table) {
+    let (mut done, mut same, mut right) = <(Count, Count, Count)>::default();
+    for seed in SEEDS {
+        let up = Rig::up(seed);
+        for call in OTHERS {
+            let mut whole = up.clone();
+            let answer = whole.call(call);
+            for (mut rig, _) in up.broken(call) {
+                done.add(rig.call(call) == answer);
+                same.add(rig.registers() == whole.registers());
+                right.add(rig.moved(AFTER).gives(SINGLE, AFTER));
+            }
+        }
+    }
+    table.title("each of calls 2 and 9 to 15 broken; then the same call");
+    table.always("answered as if nothing broke", done);
+    table.always("and then all registers are as if nothing broke", same);
+    table.always("and a single reading is right", right);
 }
 
 /// A measurement that takes longer than call 8 waits.
