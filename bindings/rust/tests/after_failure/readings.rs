@@ -171,7 +171,8 @@ pub fn while_continuous(table: &mut Table) {
 
 /// Calls 4 and 5 break.
 pub fn started_or_stopped(table: &mut Table) {
-    let (mut started, mut stopped, mut by_single) = <(Count, Count, Count)>::default();
+    let (mut started, mut stopped) = <(Count, Count)>::default();
+    let (mut by_single, mut in_recipe) = <(Count, Count)>::default();
     for seed in SEEDS {
         let up = Rig::up(seed);
         for call in [Call::StartContinuous(0), Call::StartContinuous(50)] {
@@ -183,7 +184,9 @@ pub fn started_or_stopped(table: &mut Table) {
         for (rig, call) in [(up, Call::StartContinuous(50)), (Rig::running(seed), Call::StopContinuous)] {
             for rig in rig.broken(call).flat_map(|(rig, _)| rig.at_once_and_later()) {
                 by_single.add(rig.clone().call(SINGLE) == Answer::Timeout);
-                for rig in rig.selected().after(Call::StopContinuous).thrown_away_and_cleared().at_once_and_later() {
+                let rig = rig.selected().after(Call::StopContinuous);
+                in_recipe.add(rig.clone().call(SINGLE) == Answer::Timeout);
+                for rig in rig.thrown_away_and_cleared().at_once_and_later() {
                     stopped.add(rig.moved(AFTER).gives(SINGLE, AFTER));
                 }
             }
@@ -192,5 +195,6 @@ pub fn started_or_stopped(table: &mut Table) {
     table.title("call 4 or 5 broken");
     table.always("right: page 0 by hand, call 4 again, one reading of call 7 thrown away, call 7", started);
     table.at_times("a single reading ends in Timeout, since the sensor measures continuously", by_single);
+    table.never("the same: page 0 by hand, call 5 first", in_recipe);
     table.always("right: page 0 by hand, call 5, one single reading thrown away, a pause, call 13, the next", stopped);
 }
