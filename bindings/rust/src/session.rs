@@ -52,8 +52,8 @@ impl Session {
         self.step(&call.record())
     }
 
-    /// Hands in the reply to the transfer that is out: the bytes that it read, or a failure code. Another number of bytes
-    /// than the transfer reads is refused ([`Answer::IllFormedRecord`](crate::Answer::IllFormedRecord)).
+    /// Hands in the reply to the transfer that is out: the bytes that it read, or a failure code. Another number of
+    /// bytes than the transfer reads is refused ([`Answer::IllFormedRecord`](crate::Answer::IllFormedRecord)).
     pub fn reply(&mut self, reply: Result<&[u8], NonZeroU8>) -> Outcome {
         let record = match (reply, self.outstanding()) {
             (Err(code), _) => reply::failure(code),

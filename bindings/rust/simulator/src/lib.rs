@@ -130,8 +130,8 @@ impl Simulator {
         self.planned[wait as usize].push_back(idle);
     }
 
-    /// So many transfers succeed, from the last failure that is planned on, and the one after them is not made and fails
-    /// with this code.
+    /// So many transfers succeed, from the last failure that is planned on, and the one after them is not made and
+    /// fails with this code.
     pub fn fail_after(&mut self, good_transfers: u32, code: NonZeroU8) {
         self.break_after(good_transfers, Failure::NotMade, code);
     }
