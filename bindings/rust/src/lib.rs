@@ -52,7 +52,7 @@
 //!
 //! # Plain writes
 //!
-//! The Rust driver reads as many bytes back as it writes, and ignores them. On a [`PlainWrites`] bus a write is a write
+//! The Rust driver reads after it has written, and ignores what it reads. On a [`PlainWrites`] bus a write is a write
 //! alone, which takes less time; the answers are the same:
 //!
 //! ```

@@ -5,9 +5,9 @@ use core::num::NonZeroU8;
 
 /// A bus that leaves out the reads after writes.
 ///
-/// The Rust driver makes every write of a register as a write and a read of as many bytes, and ignores what it has
-/// read. Where more than one byte is written, this makes the write alone on the bus inside it and answers zeros. The
-/// bytes on the bus are no longer the Rust driver's; the answers are.
+/// The Rust driver makes a write of registers as a write and a read, of one byte or six, and ignores what it has read.
+/// Where more than one byte is written, this makes the write alone on the bus inside it and answers zeros. The bytes on
+/// the bus are no longer the Rust driver's; the answers are.
 #[derive(Clone, Copy, Debug)]
 pub struct PlainWrites<B>(pub B);
 
