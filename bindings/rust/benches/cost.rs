@@ -3,6 +3,7 @@
 
 use hal::i2c::I2c;
 use std::hint::black_box;
+use std::num::NonZeroU8;
 use vl53l0x::inner::{self, Fields};
 use vl53l0x::VL53L0x;
 use vl53l0x_session::{drive, exported, Answer, Bus, Call, Session};
@@ -29,7 +30,7 @@ impl Tape {
     /// All the bus does. It stays a function of its own, so that it costs each side the same, and takes what is written,
     /// so that each side has to make it.
     #[inline(never)]
-    fn transfer(&mut self, address: u8, write: &[u8], read: &mut [u8]) -> Result<(), u8> {
+    fn transfer(&mut self, address: u8, write: &[u8], read: &mut [u8]) -> Result<(), NonZeroU8> {
         black_box((address, write));
         let reply = &self.replies[self.next];
         self.next += 1;
@@ -39,7 +40,7 @@ impl Tape {
 }
 
 impl Bus for Tape {
-    fn write_read(&mut self, address: u8, write: &[u8], read: &mut [u8]) -> Result<(), u8> {
+    fn write_read(&mut self, address: u8, write: &[u8], read: &mut [u8]) -> Result<(), NonZeroU8> {
         self.transfer(address, write, read)
     }
 }
@@ -48,13 +49,13 @@ impl Bus for Tape {
 struct RustBus<'a>(&'a mut Tape);
 
 impl I2c for RustBus<'_> {
-    type Error = u8;
+    type Error = NonZeroU8;
 
-    fn write(&mut self, address: u8, write: &[u8]) -> Result<(), u8> {
+    fn write(&mut self, address: u8, write: &[u8]) -> Result<(), NonZeroU8> {
         self.0.transfer(address, write, &mut [])
     }
 
-    fn write_read(&mut self, address: u8, write: &[u8], read: &mut [u8]) -> Result<(), u8> {
+    fn write_read(&mut self, address: u8, write: &[u8], read: &mut [u8]) -> Result<(), NonZeroU8> {
         self.0.transfer(address, write, read)
     }
 }
@@ -102,7 +103,7 @@ impl Case {
             let (count, reads) = (usize::from(outcome[2]), usize::from(outcome[10]));
             record = [2, 0, 0, 0, 0, 0, 0, 0];
             if let Err(code) = tape.transfer(outcome[1], &outcome[3..][..count], &mut record[2..][..reads]) {
-                record = [2, code, 0, 0, 0, 0, 0, 0];
+                record = [2, code.get(), 0, 0, 0, 0, 0, 0];
             }
         }
         assert_eq!(outcome[0], 0);

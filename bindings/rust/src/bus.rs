@@ -1,36 +1,29 @@
-//! A call on a bus that blocks.
+//! A bus, as the caller has it.
 
-use crate::{reply, Answer, Call, Outcome, Session};
+use core::num::NonZeroU8;
 
 /// A bus master that makes one transfer at a time.
 pub trait Bus {
-    /// Writes bytes to the device at an address and reads as many bytes as `read` has; with none to read it is a write
-    /// alone. A failure is a code from 1 to 255 of the bus's own.
-    fn write_read(&mut self, address: u8, write: &[u8], read: &mut [u8]) -> Result<(), u8>;
+    /// Writes bytes to the device at an address and then reads as many bytes as `read` has; with none to read it is a
+    /// write alone. All of `read` is filled, or the transfer has failed: a bus that has got fewer bytes answers with a
+    /// failure. The code, 1 to 255, is the bus's own and comes back as [`Answer::BusError`](crate::Answer::BusError).
+    fn write_read(&mut self, address: u8, write: &[u8], read: &mut [u8]) -> Result<(), NonZeroU8>;
+
+    /// Is handed every record, of a call or of a reply, before the session is. Does nothing unless it is written
+    /// otherwise; [`Recorded`](crate::Recorded) gives the records to a closure.
+    fn record(&mut self, record: &[u8; 8]) {
+        let _ = record;
+    }
 }
 
-impl<F: FnMut(u8, &[u8], &mut [u8]) -> Result<(), u8>> Bus for F {
-    fn write_read(&mut self, address: u8, write: &[u8], read: &mut [u8]) -> Result<(), u8> {
+impl<F: FnMut(u8, &[u8], &mut [u8]) -> Result<(), NonZeroU8>> Bus for F {
+    fn write_read(&mut self, address: u8, write: &[u8], read: &mut [u8]) -> Result<(), NonZeroU8> {
         self(address, write, read)
     }
 }
 
-/// Runs one call to its answer, and tells the transfers that it made. A bus that fails with code 0 is answered
-/// [`Answer::IllFormedRecord`], and the call still waits.
-pub fn drive<B: Bus + ?Sized>(session: &mut Session, bus: &mut B, call: Call) -> (Answer, u32) {
-    let mut outcome = session.begin(call);
-    loop {
-        match outcome {
-            Outcome::Answer { answer, transfers } => return (answer, transfers),
-            Outcome::Transfer(transfer) => {
-                // The bytes read go straight into the record of a good reply.
-                let mut record = [2, 0, 0, 0, 0, 0, 0, 0];
-                let read = &mut record[2..][..transfer.reads()];
-                if let Err(code) = bus.write_read(transfer.address(), transfer.written(), read) {
-                    record = reply::record(Err(code));
-                }
-                outcome = session.step(&record);
-            }
-        }
-    }
+/// Selects page 0 of the sensor's registers: one write alone, beside the driver and outside every session. Only for
+/// while no call waits on that sensor. It is no record, so [`Bus::record`] is not handed one.
+pub fn select_page_0<B: Bus + ?Sized>(bus: &mut B, address: u8) -> Result<(), NonZeroU8> {
+    bus.write_read(address, &[0xFF, 0x00], &mut [])
 }

@@ -1,5 +1,7 @@
 //! What a record leads to.
 
+use crate::Answer;
+
 /// What a record leads to: a transfer to be made, or an answer.
 #[derive(Clone, Copy, Debug, PartialEq, Eq)]
 pub enum Outcome {
@@ -40,70 +42,6 @@ impl Transfer {
     #[inline]
     pub fn reads(&self) -> usize {
         usize::from(self.reads)
-    }
-}
-
-/// The numbered answers, in the names of the Rust driver's errors where it has one. The first nine end a call; the
-/// others refuse a record and leave the session as it was.
-#[derive(Clone, Copy, Debug, PartialEq, Eq)]
-pub enum Answer {
-    /// The call succeeded; the value is the Rust driver's number, or 0.
-    Done(u32),
-    /// The Rust driver's `Ok(false)`: the budget is too short, or the signal rate limit out of range.
-    False,
-    /// The identity is this byte and not 0xEE.
-    InvalidDevice(u8),
-    /// A transfer failed with this code.
-    BusError(u8),
-    /// The sensor was not ready after the most reads of a wait.
-    Timeout,
-    /// An address outside 0x08 to 0x77.
-    InvalidAddress(u8),
-    /// Thresholds in the wrong order or above 8190.
-    InvalidArgument,
-    /// No reading is ready yet.
-    WouldBlock,
-    /// The Rust driver's arithmetic panics here: a place from 1 to 9.
-    Panic(u8),
-    /// The sensor has not been brought up.
-    NotUp,
-    /// A call, while another waits for its reply.
-    CallWaits,
-    /// A reply, while no call waits.
-    NoCallWaits,
-    /// A reply with bytes that were not read.
-    StrayByte,
-    /// No call and no reply, or arguments out of range.
-    IllFormedRecord,
-    /// The record is not eight bytes long.
-    SpareBytes,
-    /// The session says that a call waits, but is none that waits in it.
-    IllFormedSession,
-}
-
-impl Answer {
-    /// The answer with this number and value; none where the two belong to no answer.
-    fn of(number: u8, value: u32) -> Option<Answer> {
-        let byte = u8::try_from(value);
-        Some(match (number, value) {
-            (0, _) => Answer::Done(value),
-            (1, 0) => Answer::False,
-            (2, _) => Answer::InvalidDevice(byte.ok()?),
-            (3, _) => Answer::BusError(byte.ok()?),
-            (4, 0) => Answer::Timeout,
-            (5, _) => Answer::InvalidAddress(byte.ok()?),
-            (6, 0) => Answer::InvalidArgument,
-            (7, 0) => Answer::WouldBlock,
-            (8, _) => Answer::Panic(byte.ok()?),
-            (9, 0) => Answer::NotUp,
-            (10, 0) => Answer::CallWaits,
-            (11, 0) => Answer::NoCallWaits,
-            (12, 0) => Answer::StrayByte,
-            (13, 0) => Answer::IllFormedRecord,
-            (14, 0) => Answer::SpareBytes,
-            (15, 0) => Answer::IllFormedSession,
-            _ => return None,
-        })
     }
 }
 

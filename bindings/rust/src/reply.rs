@@ -1,19 +1,19 @@
-//! Replies of the bus.
+//! Records of the bus's replies.
 
-/// The record of a reply: 2, the failure code or 0, and six data bytes. What has no record, code 0 or more than six
-/// bytes, gives one of no kind, which a session refuses.
-pub(crate) fn record(reply: Result<&[u8], u8>) -> [u8; 8] {
-    let mut record = [0; 8];
-    match reply {
-        Ok(data) if data.len() <= 6 => {
-            record[0] = 2;
-            record[2..][..data.len()].copy_from_slice(data);
-        }
-        Err(code) if code != 0 => {
-            record[0] = 2;
-            record[1] = code;
-        }
-        _ => (),
-    }
+use core::num::NonZeroU8;
+
+/// Of no kind: a session refuses it.
+pub(crate) const NO_KIND: [u8; 8] = [0; 8];
+
+/// A transfer has failed with this code.
+pub(crate) fn failure(code: NonZeroU8) -> [u8; 8] {
+    [2, code.get(), 0, 0, 0, 0, 0, 0]
+}
+
+/// A transfer has read these bytes. No transfer reads more than six.
+pub(crate) fn good(data: &[u8]) -> [u8; 8] {
+    let mut record = [2, 0, 0, 0, 0, 0, 0, 0];
+    let Some(read) = record[2..].get_mut(..data.len()) else { return NO_KIND };
+    read.copy_from_slice(data);
     record
 }

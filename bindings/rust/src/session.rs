@@ -1,6 +1,7 @@
 //! A sensor, as the driver knows it, and the call that waits for a reply of the bus.
 
 use crate::{exported, reply, Call, Outcome};
+use core::num::NonZeroU8;
 
 /// What is known of one sensor, and the call that waits, if there is one. It owns its 52 bytes.
 #[derive(Clone, Debug, PartialEq, Eq)]
@@ -51,13 +52,13 @@ impl Session {
         self.step(&call.record())
     }
 
-    /// Hands in the reply to the transfer that is out: the bytes that it read, or a failure code from 1 to 255. Code 0
-    /// and another number of bytes than the transfer reads are refused
-    /// ([`Answer::IllFormedRecord`](crate::Answer::IllFormedRecord)).
-    pub fn reply(&mut self, reply: Result<&[u8], u8>) -> Outcome {
+    /// Hands in the reply to the transfer that is out: the bytes that it read, or a failure code. Another number of
+    /// bytes than the transfer reads is refused ([`Answer::IllFormedRecord`](crate::Answer::IllFormedRecord)).
+    pub fn reply(&mut self, reply: Result<&[u8], NonZeroU8>) -> Outcome {
         let record = match (reply, self.outstanding()) {
-            (Ok(data), Outcome::Transfer(transfer)) if data.len() != transfer.reads() => reply::record(Err(0)),
-            _ => reply::record(reply),
+            (Err(code), _) => reply::failure(code),
+            (Ok(data), Outcome::Transfer(transfer)) if data.len() != transfer.reads() => reply::NO_KIND,
+            (Ok(data), _) => reply::good(data),
         };
         self.step(&record)
     }

@@ -1,7 +1,10 @@
-//! The safe wrapper: records, outcomes, sessions as bytes, replies, and calls on a bus.
+//! The safe wrapper: records, outcomes, answers in words, sessions as bytes, replies.
 
+use std::num::NonZeroU8;
 use vl53l0x_session::{drive, Answer, Call, GpioFunctionality, GpioPolarity, Outcome, Session};
 use vl53l0x_simulator::Simulator;
+
+const CODE: NonZeroU8 = NonZeroU8::new(7).unwrap();
 
 /// A call on a simulated sensor.
 fn on(sensor: &mut Simulator, session: &mut Session, call: Call) -> (Answer, u32) {
@@ -47,7 +50,7 @@ fn outcomes_are_read_from_their_bytes() {
         (0, 0x1234_5678, Answer::Done(0x1234_5678)),
         (1, 0, Answer::False),
         (2, 0xED, Answer::InvalidDevice(0xED)),
-        (3, 7, Answer::BusError(7)),
+        (3, 7, Answer::BusError(CODE)),
         (4, 0, Answer::Timeout),
         (5, 0x78, Answer::InvalidAddress(0x78)),
         (6, 0, Answer::InvalidArgument),
@@ -74,11 +77,57 @@ fn outcomes_are_read_from_their_bytes() {
         [16, 0x29, 8, 0, 0, 0, 0, 0, 0, 0, 1], // writes more than there is
         [16, 0x29, 1, 0, 0, 0, 0, 0, 0, 0, 3], // reads three bytes
         [0, 0, 0, 0, 0, 0, 0, 0, 0, 1, 0],     // more than an answer has
-        [3, 0, 0, 1, 0, 0, 0, 0, 0, 0, 0],     // a failure code of nine bits
+        [3, 0, 1, 0, 0, 0, 0, 0, 0, 0, 0],     // a failure code of nine bits
+        [3, 0, 0, 0, 0, 0, 0, 0, 0, 0, 0],     // a failure without a code
         [4, 0, 0, 0, 1, 0, 0, 0, 0, 0, 0],     // a value where there is none
     ] {
         assert_eq!(Outcome::from_bytes(&bytes), None, "{bytes:?}");
     }
+}
+
+/// The words are those of `vl53l0x_answer_text` in C, with the value.
+#[test]
+fn answers_are_said_in_words() {
+    for (answer, words) in [
+        (Answer::Done(505), "done: 505"),
+        (Answer::False, "the sensor cannot do that: the budget is too short, or the limit out of range"),
+        (Answer::InvalidDevice(0x0D), "the device is no VL53L0X: its identity is 0x0D and not 0xEE"),
+        (Answer::BusError(CODE), "the bus failed: code 7"),
+        (Answer::Timeout, "the sensor was not ready after the most reads of a wait"),
+        (Answer::InvalidAddress(0x78), "the address 0x78 is not from 0x08 to 0x77"),
+        (Answer::InvalidArgument, "the thresholds are in the wrong order or above 8190 mm"),
+        (Answer::WouldBlock, "no reading is ready yet"),
+        (Answer::Panic(9), "the Rust driver's arithmetic panics here: place 9"),
+        (Answer::NotUp, "refused: the sensor has not been brought up"),
+        (Answer::CallWaits, "refused: a call waits for its reply"),
+        (Answer::NoCallWaits, "refused: no call waits for a reply"),
+        (Answer::StrayByte, "refused: the reply has bytes that were not read"),
+        (Answer::IllFormedRecord, "refused: the record is no call and no reply, or has arguments out of range"),
+        (Answer::SpareBytes, "refused: the record is not 8 bytes long"),
+        (
+            Answer::IllFormedSession,
+            "refused: the session is none, or says that a call waits and is none that waits in it",
+        ),
+    ] {
+        assert_eq!(answer.to_string(), words);
+        let expected = if let Answer::Done(value) = answer { Ok(value) } else { Err(answer) };
+        assert_eq!(answer.into_result(), expected);
+    }
+}
+
+/// An answer that is not Done goes up by `?` as any error does.
+#[test]
+fn an_answer_is_an_error() {
+    let read = |sensor: &mut Simulator| -> Result<u32, Box<dyn std::error::Error>> {
+        let mut session = Session::new();
+        on(sensor, &mut session, Call::NEW).0.into_result()?;
+        Ok(on(sensor, &mut session, Call::ReadRangeSingleMillimetersBlocking).0.into_result()?)
+    };
+    let mut sensor = Simulator::new(1);
+    sensor.set_distance(505);
+    assert_eq!(read(&mut sensor).expect("a distance"), 505);
+    sensor.fail_after(0, CODE);
+    assert_eq!(read(&mut sensor).expect_err("a failure").to_string(), "the bus failed: code 7");
 }
 
 #[test]
@@ -133,7 +182,7 @@ fn fields_stand_at_their_places() {
 fn a_reply_has_as_many_bytes_as_the_transfer_reads() {
     let refused = |answer| Outcome::Answer { answer, transfers: 0 };
     let mut session = brought_up(&mut Simulator::new(1));
-    for reply in [Ok(&[0xEE][..]), Err(7)] {
+    for reply in [Ok(&[0xEE][..]), Err(CODE)] {
         assert_eq!(session.reply(reply), refused(Answer::NoCallWaits));
     }
     for (call, reads) in [
@@ -148,20 +197,10 @@ fn a_reply_has_as_many_bytes_as_the_transfer_reads() {
         for length in (0..=8).filter(|length| *length != reads) {
             assert_eq!(waiting.reply(Ok(&[0; 8][..length])), refused(Answer::IllFormedRecord), "{call:?}");
         }
-        assert_eq!(waiting.reply(Err(0)), refused(Answer::IllFormedRecord));
         assert_eq!(waiting, before);
         assert_ne!(waiting.reply(Ok(&[0; 8][..reads])), refused(Answer::IllFormedRecord));
         assert_ne!(waiting, before);
     }
-}
-
-#[test]
-fn a_bus_that_fails_with_code_0_leaves_the_call_waiting() {
-    let mut session = brought_up(&mut Simulator::new(1));
-    let mut bus = |_: u8, _: &[u8], _: &mut [u8]| Err(0);
-    assert_eq!(drive(&mut session, &mut bus, Call::WhoAmI), (Answer::IllFormedRecord, 0));
-    assert_eq!(session.code(), 2);
-    assert_eq!(session.reply(Ok(&[0xEE])), Outcome::Answer { answer: Answer::Done(0xEE), transfers: 1 });
 }
 
 #[test]

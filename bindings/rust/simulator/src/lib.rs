@@ -4,9 +4,19 @@ mod numbers;
 
 use numbers::Numbers;
 use std::collections::VecDeque;
+use std::num::NonZeroU8;
 
 /// The failure code of a transfer to an address that no device has.
-pub const NOBODY_ANSWERS: u8 = 4;
+pub const NOBODY_ANSWERS: NonZeroU8 = NonZeroU8::new(4).unwrap();
+
+/// How much of a transfer that fails is made.
+#[derive(Clone, Copy, Debug, PartialEq, Eq)]
+pub enum Failure {
+    /// Nothing: the sensor sees none of it.
+    NotMade,
+    /// All of it, but the reply does not arrive.
+    ReplyLost,
+}
 
 /// What the driver waits for.
 #[derive(Clone, Copy)]
@@ -36,11 +46,11 @@ pub struct Simulator {
     measuring: bool,
     ready: bool,
     continuous: bool,
-    /// Failures to come: so many transfers succeed, then one fails with this code.
-    failures: VecDeque<(u32, u8)>,
+    /// Failures to come: so many transfers succeed, then one fails so and with this code.
+    failures: VecDeque<(u32, Failure, NonZeroU8)>,
     /// One transfer in so many fails.
     fails_one_in: Option<u32>,
-    last_failure: u8,
+    last_failure: Option<NonZeroU8>,
     transfers: u32,
 }
 
@@ -105,7 +115,7 @@ impl Simulator {
             continuous: false,
             failures: VecDeque::new(),
             fails_one_in: None,
-            last_failure: 0,
+            last_failure: None,
             transfers: 0,
         }
     }
@@ -120,9 +130,22 @@ impl Simulator {
         self.planned[wait as usize].push_back(idle);
     }
 
-    /// So many transfers succeed, from the last failure that is planned on, and the one after them fails with this code.
-    pub fn fail_after(&mut self, good_transfers: u32, code: u8) {
-        self.failures.push_back((good_transfers, code));
+    /// So many transfers succeed, from the last failure that is planned on, and the one after them is not made and
+    /// fails with this code.
+    pub fn fail_after(&mut self, good_transfers: u32, code: NonZeroU8) {
+        self.break_after(good_transfers, Failure::NotMade, code);
+    }
+
+    /// As `fail_after`, with either kind of failure.
+    pub fn break_after(&mut self, good_transfers: u32, failure: Failure, code: NonZeroU8) {
+        self.failures.push_back((good_transfers, failure, code));
+    }
+
+    /// A while passes: a measurement that is under way ends.
+    pub fn pass_time(&mut self) {
+        if self.measuring {
+            self.end_measurement();
+        }
     }
 
     /// From now on one transfer in so many fails, with a random code; none with `None`.
@@ -140,14 +163,24 @@ impl Simulator {
         self.stop
     }
 
-    /// The code of the last transfer that failed.
-    pub fn last_failure(&self) -> u8 {
+    /// The code of the last transfer that failed, if one did.
+    pub fn last_failure(&self) -> Option<NonZeroU8> {
         self.last_failure
     }
 
     /// The transfers that the bus has seen.
     pub fn transfers(&self) -> u32 {
         self.transfers
+    }
+
+    /// The page of registers that is selected.
+    pub fn page(&self) -> u8 {
+        self.page
+    }
+
+    /// The byte in a register.
+    pub fn register(&self, page: u8, register: u8) -> u8 {
+        self.pages[usize::from(page)][usize::from(register)]
     }
 
     /// The word in two registers of page 0, high byte first.
@@ -157,10 +190,19 @@ impl Simulator {
     }
 
     /// One transfer on the bus, or its failure code.
-    pub fn transfer(&mut self, address: u8, written: &[u8], read: &mut [u8]) -> Result<(), u8> {
+    pub fn transfer(&mut self, address: u8, written: &[u8], read: &mut [u8]) -> Result<(), NonZeroU8> {
         self.transfers += 1;
-        self.fail(address).inspect_err(|code| self.last_failure = *code)?;
-        // The first byte names a register; each byte after it, written or read, goes to the next one.
+        let failure = self.failure(address);
+        if !matches!(failure, Some((Failure::NotMade, _))) {
+            self.make(written, read);
+        }
+        let Some((_, code)) = failure else { return Ok(()) };
+        self.last_failure = Some(code);
+        Err(code)
+    }
+
+    /// The first byte names a register; each byte after it, written or read, goes to the next one.
+    fn make(&mut self, written: &[u8], read: &mut [u8]) {
         let mut register = written[0];
         for byte in &written[1..] {
             self.write(register, *byte);
@@ -170,23 +212,18 @@ impl Simulator {
             *byte = self.read(register);
             register = register.wrapping_add(1);
         }
-        Ok(())
     }
 
-    fn fail(&mut self, address: u8) -> Result<(), u8> {
+    fn failure(&mut self, address: u8) -> Option<(Failure, NonZeroU8)> {
         match self.failures.front_mut() {
-            Some((0, code)) => {
-                let code = *code;
-                self.failures.pop_front();
-                return Err(code);
-            }
-            Some((good_transfers, _)) => *good_transfers -= 1,
+            Some((0, ..)) => return self.failures.pop_front().map(|(_, failure, code)| (failure, code)),
+            Some((good_transfers, ..)) => *good_transfers -= 1,
             None => (),
         }
         match self.fails_one_in {
-            Some(transfers) if self.numbers.one_in(transfers) => Err(1 + self.numbers.below(255) as u8),
-            _ if address != self.address => Err(NOBODY_ANSWERS),
-            _ => Ok(()),
+            Some(transfers) if self.numbers.one_in(transfers) => Some((Failure::NotMade, self.numbers.code())),
+            _ if address != self.address => Some((Failure::NotMade, NOBODY_ANSWERS)),
+            _ => None,
         }
     }
 
@@ -260,11 +297,15 @@ impl Simulator {
         }
     }
 
+    fn end_measurement(&mut self) {
+        self.measuring = false;
+        self.ready = true;
+        self.pages[0][0x1E..=0x1F].copy_from_slice(&self.distance.to_be_bytes());
+    }
+
     fn interrupt_status(&mut self) -> u8 {
         if self.measuring && !self.is_idle(Wait::Status) {
-            self.measuring = false;
-            self.ready = true;
-            self.pages[0][0x1E..=0x1F].copy_from_slice(&self.distance.to_be_bytes());
+            self.end_measurement();
         }
         if self.ready {
             0x44

@@ -1,5 +1,7 @@
 //! Pseudo-random numbers (xorshift64*).
 
+use std::num::NonZeroU8;
+
 /// The numbers that a seed decides.
 #[derive(Clone, PartialEq, Eq)]
 pub struct Numbers(u64);
@@ -28,6 +30,11 @@ impl Numbers {
     /// Any byte.
     pub fn byte(&mut self) -> u8 {
         self.below(256) as u8
+    }
+
+    /// Any failure code.
+    pub fn code(&mut self) -> NonZeroU8 {
+        NonZeroU8::MIN.saturating_add(self.below(255) as u8)
     }
 
     /// True once in `n` times.

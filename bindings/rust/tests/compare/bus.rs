@@ -1,6 +1,7 @@
 //! The simulated bus as the Rust driver sees it. It keeps each transfer with its reply.
 
 use hal::i2c::I2c;
+use std::num::NonZeroU8;
 use vl53l0x_simulator::Simulator;
 
 /// The sensor's address after power-up.
@@ -59,7 +60,7 @@ impl I2c for &mut Bus<'_> {
     }
 
     fn write_read(&mut self, address: u8, write: &[u8], read: &mut [u8]) -> Result<(), u8> {
-        let reply = self.sensor.transfer(address, write, read).map(|()| {
+        let reply = self.sensor.transfer(address, write, read).map_err(NonZeroU8::get).map(|()| {
             (self.spoil)(write, read);
             let mut data = [0; 6];
             data[..read.len()].copy_from_slice(read);

@@ -5,6 +5,7 @@ use crate::call::{Answer, Call, CALLS, FUNCTIONALITIES, POLARITIES};
 use crate::refused::Refusing;
 use crate::sides::Sides;
 use crate::tally::Tally;
+use std::num::NonZeroU8;
 use vl53l0x::inner::{self, Fields};
 use vl53l0x::VL53L0x;
 use vl53l0x_session::{Outcome, Session};
@@ -24,6 +25,10 @@ pub fn run(tally: &mut Tally) {
     periods(tally);
     budgets(tally);
     bring_up_budgets(tally);
+}
+
+fn code(code: u8) -> NonZeroU8 {
+    NonZeroU8::new(code).expect("a failure code")
 }
 
 /// Both drivers, up.
@@ -59,7 +64,7 @@ fn new() {
         let mut sensor = Simulator::new(seed);
         let mut spoil = |_: &[u8], _: &mut [u8]| ();
         let mut bus = Bus::new(&mut sensor, &mut spoil);
-        let fields = VL53L0x::new(&mut bus).map(|chip| inner::fields(&chip)).ok().expect("no failure");
+        let fields = VL53L0x::new(&mut bus).map(|chip| inner::fields(&chip)).expect("no failure");
         let Fields { stop_variable, measurement_timing_budget_microseconds, address } = fields;
 
         let mut session = Session::new();
@@ -90,10 +95,10 @@ fn failed_transfers(tally: &mut Tally) {
         let idle = if matches!(call, Call::ReadRange) { [0; 2] } else { [2; 2] };
         for n in 0.. {
             let mut sides = ready_for(call, &idle, "failed transfers", tally);
-            let code = (n % 255 + 1) as u8;
+            let code = NonZeroU8::MIN.saturating_add((n % 255) as u8);
             sides.sensor.fail_after(n, code);
             let answer = sides.make(call);
-            if answer != Answer(3, code.into()) {
+            if answer != Answer(3, code.get().into()) {
                 assert_eq!(answer.0, 0, "{call:?}");
                 break;
             }
@@ -129,9 +134,9 @@ fn failed_range_reads(tally: &mut Tally) {
     for (call, n) in [(Call::ReadRange, 1), (Call::ReadRangeContinuous, 1), (Call::ReadRangeSingle, 10)] {
         for (after, clearing) in [(None, 41), (Some(0), 52), (Some(1), 53)] {
             let mut sides = ready_for(call, &[0, 0], "failed range reads", tally);
-            sides.sensor.fail_after(n, 41);
+            sides.sensor.fail_after(n, code(41));
             if let Some(after) = after {
-                sides.sensor.fail_after(after, clearing);
+                sides.sensor.fail_after(after, code(clearing));
             }
             let reported = if matches!(call, Call::ReadRange) { 41 } else { clearing };
             assert_eq!(sides.make(call), Answer(3, reported.into()), "{call:?}");
@@ -165,7 +170,7 @@ fn waits(tally: &mut Tally) {
         assert_eq!(sides.make(call).0, number, "{call:?} {idle:?}");
     }
     let mut sides = ready_for(single, &[4_000, 6_000], "a failure in a wait", tally);
-    sides.sensor.fail_after(9_000, 77);
+    sides.sensor.fail_after(9_000, code(77));
     assert_eq!(sides.make(single), Answer(3, 77));
 }
 
@@ -177,7 +182,7 @@ fn addresses(tally: &mut Tally) {
         assert_eq!(sides.make(Call::WhoAmI), Answer(0, 0xEE));
     }
     for address in [0x00, 0x29, 0xFF] {
-        assert_eq!(sides.make(Call::WithAddress(address)), Answer(3, NOBODY_ANSWERS.into()));
+        assert_eq!(sides.make(Call::WithAddress(address)), Answer(3, NOBODY_ANSWERS.get().into()));
     }
     for identity in [0x00, 0xED, 0xFF] {
         let mut other = |written: &[u8], read: &mut [u8]| {

@@ -31,7 +31,8 @@ mod place;
 mod refused;
 
 use std::hint::black_box;
-use std::panic;
+use std::ops::Range;
+use std::{env, panic, process};
 use tally::Tally;
 
 /// The Rust driver answers otherwise where it overflows and nothing is checked.
@@ -43,16 +44,30 @@ fn assert_overflow_checks() {
     assert!(checked, "the comparison needs overflow checks: build it without --release");
 }
 
+/// The seeds that the arguments ask for; none where they are no such numbers.
+fn seeds() -> Option<Range<u64>> {
+    let numbers: Vec<u64> = env::args().skip(1).map(|argument| argument.parse().ok()).collect::<Option<_>>()?;
+    let (count, first) = match numbers[..] {
+        [] => (1000, 1),
+        [count] => (count, 1),
+        [count, first] => (count, first),
+        _ => return None,
+    };
+    Some(first..first.checked_add(count)?).filter(|seeds| !seeds.is_empty())
+}
+
 fn main() {
     assert_overflow_checks();
     // From here on any panic that is not one of the Rust driver's ends the program.
     place::install();
-    let mut arguments = std::env::args().skip(1).filter_map(|argument| argument.parse::<u64>().ok());
-    let (count, first) = (arguments.next().unwrap_or(1000), arguments.next().unwrap_or(1));
+    let Some(seeds) = seeds() else {
+        eprintln!("usage: compare [SEEDS [FIRST SEED]], numbers, SEEDS from 1");
+        process::exit(2)
+    };
     let mut tally = Tally::default();
     fixed::run(&mut tally);
     tally.assert_complete();
-    for seed in first..first + count {
+    for seed in seeds {
         random::run(seed, &mut tally);
     }
     tally.assert_complete();

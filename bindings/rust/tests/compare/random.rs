@@ -6,6 +6,7 @@ use crate::numbers::Numbers;
 use crate::refused::Refusing;
 use crate::sides::Sides;
 use crate::tally::Tally;
+use std::num::NonZeroU8;
 use vl53l0x_simulator::{Simulator, Wait};
 
 const NEVER: u32 = u32::MAX;
@@ -54,16 +55,20 @@ fn call(numbers: &mut Numbers) -> Call {
     }
 }
 
+fn code(numbers: &mut Numbers) -> NonZeroU8 {
+    NonZeroU8::new(numbers.byte()).unwrap_or(NonZeroU8::MIN)
+}
+
 /// Another distance; sometimes failures, and waits of any length.
 fn trouble(numbers: &mut Numbers, sensor: &mut Simulator) {
     sensor.set_distance(numbers.below(65_536) as u16);
     match numbers.below(6) {
-        0 => sensor.fail_after(numbers.below(14), numbers.byte().max(1)),
-        1 => sensor.fail_after(numbers.below(170), numbers.byte().max(1)),
+        0 => sensor.fail_after(numbers.below(14), code(numbers)),
+        1 => sensor.fail_after(numbers.below(170), code(numbers)),
         2 => {
             let first = numbers.below(14);
-            sensor.fail_after(first, numbers.byte().max(1));
-            sensor.fail_after(numbers.below(3), numbers.byte().max(1));
+            sensor.fail_after(first, code(numbers));
+            sensor.fail_after(numbers.below(3), code(numbers));
         }
         3 => sensor.fail_one_in(Some(10 + numbers.below(300))),
         _ => sensor.fail_one_in(None),

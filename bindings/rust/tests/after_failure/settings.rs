@@ -1,0 +1,119 @@
+//! Has the sensor taken what the next call has set?
+
+use crate::rig::{Rig, AFTER, CONTINUOUS, SINGLE};
+use crate::{Count, Table, SEEDS};
+use std::collections::BTreeMap;
+use vl53l0x_session::{Answer, Call, GpioFunctionality, GpioPolarity};
+use vl53l0x_simulator::{Simulator, NOBODY_ANSWERS};
+
+/// The calls that set something. What breaks before them sets something else.
+const SETTINGS: [Call; 5] = [
+    Call::SetMeasurementTimingBudget(50_000),
+    Call::SetInterruptThresholdsMm(100, 300),
+    Call::SetAddress(0x30),
+    Call::SetSignalRateLimit(1.0),
+    Call::SetGpioConfig(GpioFunctionality::OutOfWindow, GpioPolarity::ActiveHigh),
+];
+
+const BROKEN: [Call; 15] = [
+    Call::WhoAmI,
+    Call::SetAddress(0x31),
+    Call::StartContinuous(0),
+    Call::StartContinuous(50),
+    Call::StopContinuous,
+    Call::ReadRangeMm,
+    CONTINUOUS,
+    SINGLE,
+    Call::SetMeasurementTimingBudget(60_000),
+    Call::SetInterruptThresholdsMm(200, 400),
+    Call::GetInterruptThresholdsMm,
+    Call::SetGpioConfig(GpioFunctionality::LevelLow, GpioPolarity::ActiveLow),
+    Call::ClearInterruptStatus,
+    Call::SetSignalRateLimit(0.5),
+    Call::GetMeasurementTimingBudget,
+];
+
+/// What a setting leaves in the sensor.
+fn set(call: Call, sensor: &Simulator) -> Vec<u8> {
+    let registers: &[u8] = match call {
+        Call::SetMeasurementTimingBudget(_) => &[0x71, 0x72],
+        Call::SetInterruptThresholdsMm(..) => &[0x0C, 0x0D, 0x0E, 0x0F],
+        Call::SetSignalRateLimit(_) => &[0x44, 0x45],
+        Call::SetGpioConfig(..) => &[0x0A, 0x84],
+        _ => return vec![sensor.address()],
+    };
+    registers.iter().map(|register| sensor.register(0, *register)).collect()
+}
+
+/// A rig on which this call can be Done.
+fn ready_for(call: Call, seed: u64) -> Rig {
+    match call {
+        Call::StopContinuous | CONTINUOUS => Rig::running(seed),
+        Call::ReadRangeMm => Rig::running(seed).paused(),
+        _ => Rig::up(seed),
+    }
+}
+
+/// Whether the setting is Done while the sensor has not taken it; none where it is not Done.
+fn is_lost(mut rig: Rig, setting: Call, taken: &[u8]) -> Option<bool> {
+    (rig.call(setting) == Answer::Done(0)).then(|| set(setting, &rig.sensor) != taken)
+}
+
+/// Any call breaks, and then something is set.
+pub fn the_next_setting(table: &mut Table) {
+    let (mut lost, mut by_call) = (BTreeMap::<u8, Count>::new(), BTreeMap::<u8, Count>::new());
+    let (mut thrown, mut by_hand, mut recovered) = <(Count, Count, Count)>::default();
+    for seed in SEEDS {
+        for call in BROKEN {
+            let ready = ready_for(call, seed);
+            for setting in SETTINGS {
+                let mut whole = ready.clone();
+                assert_eq!(whole.call(setting), Answer::Done(0));
+                let taken = set(setting, &whole.sensor);
+                for (rig, _) in ready.broken(call) {
+                    if let Some(is_lost) = is_lost(rig.clone(), setting, &taken) {
+                        lost.entry(setting.record()[1]).or_default().add(is_lost);
+                        by_call.entry(call.record()[1]).or_default().add(is_lost);
+                    }
+                    for (rig, count) in [
+                        (rig.clone().after(SINGLE), &mut thrown),
+                        (rig.clone().selected(), &mut by_hand),
+                        (rig.recovered(), &mut recovered),
+                    ] {
+                        is_lost(rig, setting, &taken).into_iter().for_each(|so| count.add(so));
+                    }
+                }
+            }
+        }
+    }
+    table.title("each of calls 2 to 15 broken; then a setting that is Done");
+    for (code, count) in &lost {
+        table.at_times(&format!("not taken by the sensor: call {code}"), *count);
+    }
+    for (code, count) in by_call.iter().filter(|(_, count)| count.so > 0) {
+        table.count(&format!("  where call {code} broke"), *count);
+    }
+    table.never("not taken: one single reading thrown away first", thrown);
+    table.never("not taken: page 0 by hand first", by_hand);
+    table.never("not taken: page 0 by hand, one thrown away, a pause, call 13 first", recovered);
+}
+
+/// Call 3 breaks: the sensor may be at either address.
+pub fn after_set_address(table: &mut Table) {
+    let (mut gone, mut found) = <(Count, Count)>::default();
+    for seed in SEEDS {
+        for (mut rig, _) in Rig::up(seed).broken(Call::SetAddress(0x30)) {
+            let moved = rig.call(Call::WhoAmI) == Answer::BusError(NOBODY_ANSWERS);
+            gone.add(moved);
+            if moved {
+                rig.call(Call::WithAddress(0x30));
+            } else {
+                rig.call(Call::SetAddress(0x30));
+            }
+            found.add(rig.session.address() == 0x30 && rig.moved(AFTER).gives(SINGLE, AFTER));
+        }
+    }
+    table.title("call 3 broken; then call 2");
+    table.at_times("BusError: nobody answers at the old address", gone);
+    table.always("right: there a bring-up at the new address, else call 3 again, and a single reading", found);
+}
