@@ -7,14 +7,17 @@ ghost use Rattle.console.specs.Streams.{PrintsInput};
 
 use blocks::Fields;
 use console::Failure;
-use std::env;
-use std::io;
 use std::io::{Read, Write};
 use std::process::ExitCode;
 use std::time::Clock;
+use std::{env, io};
 
 #[tactic(auto, unfolding(blocks::specs::Input::rollfields_text))]
-fn print<R: Read, W: Write, C: Clock>(reader: &mut R, writer: &mut W, clock: &C) -> Result<(), Failure>
+fn print<R: Read, W: Write, C: Clock>(
+    reader: &mut R,
+    writer: &mut W,
+    clock: &C,
+) -> Result<(), Failure>
     ensures { PrintsInput rollfields_text (R.remaining reader.old) (R.remaining reader.new) (W.contents writer.old) (W.contents writer.new) result }
 {
     console::run::<Fields, R, W, C>(reader, writer, clock)

@@ -7,14 +7,17 @@ ghost use Rattle.console.specs.Streams.{PrintsInput};
 
 use blocks::Outcomes;
 use console::Failure;
-use std::env;
-use std::io;
 use std::io::{Read, Write};
 use std::process::ExitCode;
 use std::time::Clock;
+use std::{env, io};
 
 #[tactic(auto, unfolding(blocks::specs::Input::rolltrace_text))]
-fn print<R: Read, W: Write, C: Clock>(reader: &mut R, writer: &mut W, clock: &C) -> Result<(), Failure>
+fn print<R: Read, W: Write, C: Clock>(
+    reader: &mut R,
+    writer: &mut W,
+    clock: &C,
+) -> Result<(), Failure>
     ensures { PrintsInput rolltrace_text (R.remaining reader.old) (R.remaining reader.new) (W.contents writer.old) (W.contents writer.new) result }
 {
     console::run::<Outcomes, R, W, C>(reader, writer, clock)
