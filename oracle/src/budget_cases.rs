@@ -20,7 +20,7 @@ pub fn replies(sequence: u8, pre_range: u16, final_range: u16, pre_period: u8, m
 /// Sequence bit 6: pre-range is on.
 const PRE_RANGE: u8 = 0x40;
 
-/// The bench replies of 01.
+/// The bench replies: the budget reads of SCOPE 11.1.
 pub const BENCH: Replies = [0xE8, 0x00, 0x96, 0x01, 0xFE, 0x06, 0x25, 0x04];
 const BENCH_BUDGET: u32 = 33_000;
 

@@ -1,4 +1,4 @@
-//! The fifteen calls, as records of 01 and as calls of the Rust.
+//! The fifteen calls, as records (SCOPE 7.1) and as calls of the Rust.
 
 use crate::bus::ADDRESS;
 use crate::place::run;
@@ -6,10 +6,10 @@ use hal::i2c::I2c;
 use vl53l0x::inner::{self, Fields};
 use vl53l0x::{Error, GpioFunctionality, GpioPolarity, VL53L0x};
 
-/// A record of 01.
+/// A record of SCOPE 7.1.
 pub type Record = [u8; 8];
 
-/// A call with its arguments, in 01's order.
+/// A call with its arguments, in the order of SCOPE 5.1.
 #[derive(Clone, Copy, Debug)]
 pub enum Call {
     WithAddress(u8),
@@ -48,7 +48,7 @@ pub const CALLS: [Call; 15] = [
     Call::GetBudget,
 ];
 
-/// In 01's order.
+/// Each at its number in SCOPE 5.10.
 pub const FUNCTIONALITIES: [GpioFunctionality; 4] = [
     GpioFunctionality::NewSampleReady,
     GpioFunctionality::LevelLow,
@@ -83,7 +83,7 @@ impl Call {
         let ([a, b, c, d], [e, f]) = (u32::to_be_bytes(a), u16::to_be_bytes(b));
         [1, code, a, b, c, d, e, f]
     }
-    /// The call that a record's code and arguments stand for; none if 01 refuses them with 13.
+    /// The call that a record's code and arguments stand for; none if they are refused with 13 (SCOPE 7.2).
     pub fn of(code: u8, [a, b, c, d, e, f]: [u8; 6]) -> Option<Call> {
         let (a, b) = (u32::from_be_bytes([a, b, c, d]), u16::from_be_bytes([e, f]));
         Some(match (code, a, b) {
@@ -107,7 +107,7 @@ impl Call {
     }
 }
 
-/// An answer's number in 01's table, and its value.
+/// An answer's number and value, as in the table of SCOPE 9.1.
 #[derive(Clone, Copy, Debug, PartialEq, Eq)]
 pub struct Answer(pub u8, pub u32);
 

@@ -57,7 +57,7 @@ pub fn list() -> List {
     list
 }
 
-/// The bench values of 01.
+/// The values of SCOPE 11.1, and the laser periods about place 4 (SCOPE 3.1).
 fn bench() {
     let decoded = [0x0000, 0x0FFF, 0x1000, 0x0180].map(|word| text(run(|| decode_timeout(word))));
     assert_eq!(decoded, ["1", "32769", "P2", "257"]);

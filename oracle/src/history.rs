@@ -1,4 +1,5 @@
-//! The history of a list, told from its records and their lines alone: 01's counts, and its rule for the driver's fields.
+//! The history of a list, told from its records and their lines alone: the counts of SCOPE 8.1, and the driver's fields
+//! by SCOPE 6.
 
 use crate::budget::{get, READS};
 use crate::bytes::hex;

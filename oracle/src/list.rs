@@ -80,7 +80,7 @@ impl List {
         }
     }
 
-    /// The Rust gives this line: a bench value of 01.
+    /// The Rust gives this line: a value of SCOPE 3.1, SCOPE 5.11 or SCOPE 11.
     pub fn must_have(&self, line: &str) {
         assert!(self.lines.lines().any(|written| written == line), "{}: no line {line}", self.name);
     }

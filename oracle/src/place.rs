@@ -1,4 +1,4 @@
-//! A panic of the Rust as one of the places that 01 numbers.
+//! A panic of the Rust as one of the places of SCOPE 9.4.
 
 use std::cell::Cell;
 use std::fmt::{self, Display, Formatter};

@@ -1,5 +1,5 @@
-//! A list of records, run on the Rust by 01's rules. The Rust blocks, so the bus itself takes records until one of them
-//! replies to its transfer.
+//! A list of records, run on the Rust by the rules of SCOPE 7 to SCOPE 9. The Rust blocks, so the bus itself takes
+//! records until one of them replies to its transfer.
 
 use crate::call::{make, Answer, Call, Record};
 use hal::i2c::I2c;
@@ -7,7 +7,7 @@ use std::io::{self, Read, Write};
 use std::panic::{self, AssertUnwindSafe};
 use vl53l0x::inner::Fields;
 
-/// A record that 01 does not refuse with 13.
+/// A record that is not refused with 13 (SCOPE 7).
 enum Event {
     Call(Call),
     Reply { failure: u8, data: [u8; 6] },

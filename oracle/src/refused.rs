@@ -1,4 +1,4 @@
-//! Records that 01 refuses.
+//! Records that are refused: 9 to 13 of SCOPE 9.1.
 
 use crate::bytes::with;
 use crate::call::{Call, Record, CALLS};
