@@ -7,10 +7,11 @@ ghost use Rattle.console.specs.Streams.{PrintsInput};
 
 use blocks::Outcomes;
 use console::Failure;
+use std::env::{Env, FillError};
+use std::io;
 use std::io::{Read, Write};
 use std::process::ExitCode;
 use std::time::Clock;
-use std::{env, io};
 
 #[tactic(auto, unfolding(blocks::specs::Input::rolltrace_text))]
 fn print<R: Read, W: Write, C: Clock>(
@@ -25,11 +26,8 @@ fn print<R: Read, W: Write, C: Clock>(
 
 // No contract says what standard input gives or what standard output takes. Where standard error takes nothing, the status is all that is left.
 fn main(rt: HostRuntime) -> ExitCode {
-    let alone = match env::args(&rt) {
-        Ok(args) => args.count() <= 1,
-        Err(_) => false,
-    };
-    if !alone {
+    // Only whether there is an argument is asked, and not which.
+    if !matches!(rt.arg(1, &mut [0u8; 1]), Err(FillError::NotPresent)) {
         let _ = eprintln!(rt; "usage: rolltrace < RECORDS > LINES");
         return ExitCode::from(2);
     }
