@@ -249,33 +249,38 @@ static void read_after_failure(struct reader *reader)
 
     break_at_clearing(reader, 900);
     simulator_pass_time(sensor);
-    simulator_set_distance(sensor, 100);
+    simulator_set_distance(sensor, 200);
     expect("recovered", recover(reader, &thrown_away), true);
     expect("the reading that is thrown away", thrown_away, 900);
     simulator_pass_time(sensor);
+    simulator_set_distance(sensor, 100);
     expect_reading(reader, 100);
     printf("the same again, but recovered first (page 0 by hand, one reading thrown away: %lu mm, a pause, "
            "the interrupt cleared), then: %lu mm\n",
            (unsigned long)thrown_away, (unsigned long)value(reader));
 }
 
-/* A bus that breaks any transfer now and then. */
+/* A bus that breaks any transfer now and then. While a reading is recovered the roll is at 900 mm. */
 static void read_on_noisy_bus(struct reader *reader)
 {
+    struct simulator *sensor = &reader->sensor;
     uint32_t broken = 0, thrown_away;
-    simulator_fail_one_in(&reader->sensor, 100);
+    simulator_fail_one_in(sensor, 100);
     for (uint16_t distance = 100; distance < 150; distance++) {
-        simulator_set_distance(&reader->sensor, distance);
+        simulator_set_distance(sensor, distance);
         while (!is_done(reader, VL53L0X_READ_RANGE_SINGLE_MILLIMETERS_BLOCKING)) {
             broken++;
-            simulator_pass_time(&reader->sensor);
+            simulator_pass_time(sensor);
+            simulator_set_distance(sensor, 900);
             while (!recover(reader, &thrown_away)) {
             }
+            simulator_pass_time(sensor);
+            simulator_set_distance(sensor, distance);
         }
         expect("the single reading", value(reader), distance);
-        simulator_pass_time(&reader->sensor);
+        simulator_pass_time(sensor);
     }
-    simulator_fail_one_in(&reader->sensor, 0);
+    simulator_fail_one_in(sensor, 0);
     printf("one transfer in 100 fails: 50 single readings are right, "
            "with a recovery after each of the %lu that broke\n",
            (unsigned long)broken);

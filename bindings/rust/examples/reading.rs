@@ -190,9 +190,10 @@ impl Reader {
 
         self.break_at_clearing(900);
         self.sensor.pass_time();
-        self.sensor.set_distance(100);
+        self.sensor.set_distance(200);
         assert_eq!(self.recover(), Some(900));
         self.sensor.pass_time();
+        self.sensor.set_distance(100);
         self.done(SINGLE, 100);
         println!(
             "the same again, but recovered first (page 0 by hand, one reading thrown away: 900 mm, a pause, \
@@ -200,7 +201,7 @@ impl Reader {
         );
     }
 
-    /// A bus that breaks any transfer now and then.
+    /// A bus that breaks any transfer now and then. While a reading is recovered the roll is at 900 mm.
     fn read_on_noisy_bus(&mut self) {
         let mut broken = 0;
         self.sensor.fail_one_in(Some(100));
@@ -212,7 +213,10 @@ impl Reader {
                 }
                 broken += 1;
                 self.sensor.pass_time();
+                self.sensor.set_distance(900);
                 while self.recover().is_none() {}
+                self.sensor.pass_time();
+                self.sensor.set_distance(distance);
             };
             assert_eq!(range, distance.into());
             self.sensor.pass_time();
