@@ -47,8 +47,8 @@
  *   - No call reads the range status. "Out of range" is a number to the driver, as a rule some 8190 mm. A caller has to
  *     know which distances can be.
  *   - A sensor that is never ready is answered VL53L0X_TIMEOUT only after many transfers: a bring-up makes 65,561 where
- *     one wait never ends, and 85,684 where every wait is as long as it can be, which is 8.4 s at 400 kHz; a single
- *     reading makes up to 20,008, which is 2 s.
+ *     its first wait never ends, and up to 85,684 with every wait as long as it can be, which is 8.4 s at 400 kHz; a
+ *     single reading makes up to 20,008, which is 2 s.
  *
  * How often all this happens and that the recipes help was measured on a simulated sensor: bindings/README.md.
  *
