@@ -187,30 +187,10 @@ static void break_at_clearing(struct reader *reader, uint16_t distance)
     expect("up", vl53l0x_session_up(reader->session), 1);
 }
 
-/* A reading after one that broke may be the old one. With one single reading thrown away between them it is not. */
-static void read_after_failure(struct reader *reader)
+/* Runs one call without arguments; false if the bus broke it. */
+static bool is_done(struct reader *reader, uint8_t code)
 {
-    break_at_clearing(reader, 900);
-    printf("single reading at 900 mm: the bus failed with code %lu at transfer %lu, where the interrupt is cleared\n",
-           (unsigned long)value(reader), (unsigned long)transfers(reader));
-    simulator_set_distance(&reader->sensor, 100);
-    expect_reading(reader, 900);
-    printf("the roll moves to 100 mm; the same call again: %lu mm, which is the old reading\n",
-           (unsigned long)value(reader));
-
-    break_at_clearing(reader, 900);
-    simulator_set_distance(&reader->sensor, 100);
-    expect_reading(reader, 900);
-    uint32_t thrown_away = value(reader);
-    expect_reading(reader, 100);
-    printf("the same again, but one single reading is thrown away (%lu mm), then: %lu mm\n", (unsigned long)thrown_away,
-           (unsigned long)value(reader));
-}
-
-/* One single reading; false if the bus broke it. */
-static bool reading_is_done(struct reader *reader)
-{
-    uint8_t answer = drive_call(reader, VL53L0X_READ_RANGE_SINGLE_MILLIMETERS_BLOCKING, 0);
+    uint8_t answer = drive_call(reader, code, 0);
     if (answer == VL53L0X_BUS_ERROR) {
         expect("the failure code", value(reader), reader->sensor.last_failure);
         return false;
@@ -219,23 +199,90 @@ static bool reading_is_done(struct reader *reader)
     return true;
 }
 
-/* A bus that breaks any transfer now and then. */
+/* Longer than a measurement takes. On a machine this waits, for twice the timing budget, say. */
+static void pause_for_measurement(struct reader *reader)
+{
+    simulator_pass_time(&reader->sensor);
+}
+
+/*
+ * What vl53l0x_bus.h says has to be done after a single reading that broke. False if one of the steps broke too; then
+ * it is begun again. Tells the value that is thrown away.
+ */
+static bool recover(struct reader *reader, uint32_t *thrown_away)
+{
+    const struct vl53l0x_bus bus = bus_of(reader);
+    int result = vl53l0x_select_page_0(&bus, vl53l0x_session_address(reader->session));
+    if (result != 0) {
+        expect("the bus's result", (uint32_t)-result, reader->sensor.last_failure);
+        return false;
+    }
+    if (!is_done(reader, VL53L0X_READ_RANGE_SINGLE_MILLIMETERS_BLOCKING)) {
+        return false;
+    }
+    *thrown_away = value(reader);
+    pause_for_measurement(reader);
+    return is_done(reader, VL53L0X_CLEAR_INTERRUPT_STATUS);
+}
+
+/* The readings after one that broke may be old ones, each of them one behind. After `recover` they are not. */
+static void read_after_failure(struct reader *reader)
+{
+    struct simulator *sensor = &reader->sensor;
+    uint32_t thrown_away;
+
+    break_at_clearing(reader, 900);
+    printf("single reading at 900 mm: the bus failed with code %lu at transfer %lu, where the interrupt is cleared\n",
+           (unsigned long)value(reader), (unsigned long)transfers(reader));
+    simulator_pass_time(sensor);
+    simulator_set_distance(sensor, 100);
+    expect_reading(reader, 900);
+    printf("the roll moves to 100 mm; the same call again: %lu mm, which is the old reading\n",
+           (unsigned long)value(reader));
+    simulator_pass_time(sensor);
+    expect("what was measured meanwhile", simulator_word(sensor, 0x1E), 100);
+    simulator_set_distance(sensor, 200);
+    expect_reading(reader, 100);
+    printf("a while later the roll moves to 200 mm; one more: %lu mm, one behind: throwing one away is not enough\n",
+           (unsigned long)value(reader));
+    expect("recovered", recover(reader, &thrown_away), true);
+
+    break_at_clearing(reader, 900);
+    simulator_pass_time(sensor);
+    simulator_set_distance(sensor, 200);
+    expect("recovered", recover(reader, &thrown_away), true);
+    expect("the reading that is thrown away", thrown_away, 900);
+    simulator_pass_time(sensor);
+    simulator_set_distance(sensor, 100);
+    expect_reading(reader, 100);
+    printf("the same again, but recovered first (page 0 by hand, one reading thrown away: %lu mm, a pause, "
+           "the interrupt cleared), then: %lu mm\n",
+           (unsigned long)thrown_away, (unsigned long)value(reader));
+}
+
+/* A bus that breaks any transfer now and then. While a reading is recovered the roll is at 900 mm. */
 static void read_on_noisy_bus(struct reader *reader)
 {
-    uint32_t broken = 0;
-    simulator_fail_one_in(&reader->sensor, 100);
+    struct simulator *sensor = &reader->sensor;
+    uint32_t broken = 0, thrown_away;
+    simulator_fail_one_in(sensor, 100);
     for (uint16_t distance = 100; distance < 150; distance++) {
-        simulator_set_distance(&reader->sensor, distance);
-        while (!reading_is_done(reader)) {
+        simulator_set_distance(sensor, distance);
+        while (!is_done(reader, VL53L0X_READ_RANGE_SINGLE_MILLIMETERS_BLOCKING)) {
             broken++;
-            while (!reading_is_done(reader)) {
+            simulator_pass_time(sensor);
+            simulator_set_distance(sensor, 900);
+            while (!recover(reader, &thrown_away)) {
             }
+            simulator_pass_time(sensor);
+            simulator_set_distance(sensor, distance);
         }
         expect("the single reading", value(reader), distance);
+        simulator_pass_time(sensor);
     }
-    simulator_fail_one_in(&reader->sensor, 0);
-    printf("one transfer in 100 fails: 50 single readings are right, with one thrown away after each of the %lu that "
-           "broke\n",
+    simulator_fail_one_in(sensor, 0);
+    printf("one transfer in 100 fails: 50 single readings are right, "
+           "with a recovery after each of the %lu that broke\n",
            (unsigned long)broken);
 }
 

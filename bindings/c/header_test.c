@@ -67,7 +67,8 @@ static void sessions(void)
 static uint8_t step(uint8_t *session, const uint8_t *record)
 {
     uint8_t outcome[VL53L0X_OUTCOME_SIZE];
-    uint8_t returned = vl53l0x_step(session, VL53L0X_SESSION_SIZE, record, VL53L0X_RECORD_SIZE, outcome, sizeof outcome);
+    uint8_t returned =
+        vl53l0x_step(session, VL53L0X_SESSION_SIZE, record, VL53L0X_RECORD_SIZE, outcome, sizeof outcome);
     CHECK(returned == outcome[0]);
     return returned;
 }

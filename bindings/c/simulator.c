@@ -23,8 +23,9 @@ static const uint8_t FACTORY[][2] = {{0, 0x60}, {0, 0x84}, {0, 0x89}, {0, 0xB0},
                                      {0, 0xB4}, {0, 0xB5}, {0, 0xF8}, {0, 0xF9}, {1, 0x91}, {6, 0x83}, {7, 0x92}};
 
 /* Registers that all sensors start with: the identity and the budget. */
-static const uint8_t POWER_UP[][2] = {{0xC0, 0xEE}, {0xC1, 0xAA}, {0xC2, 0x10}, {0x01, 0xFF}, {0x46, 0x25}, {0x50, 0x06},
-                                      {0x51, 0x00}, {0x52, 0x96}, {0x70, 0x04}, {0x71, 0x01}, {0x72, 0xFE}};
+static const uint8_t POWER_UP[][2] = {{0xC0, 0xEE}, {0xC1, 0xAA}, {0xC2, 0x10}, {0x01, 0xFF},
+                                      {0x46, 0x25}, {0x50, 0x06}, {0x51, 0x00}, {0x52, 0x96},
+                                      {0x70, 0x04}, {0x71, 0x01}, {0x72, 0xFE}};
 
 void simulator_power_up(struct simulator *sensor, uint64_t seed)
 {
@@ -49,8 +50,15 @@ void simulator_set_distance(struct simulator *sensor, uint16_t millimetres)
 
 void simulator_fail_after(struct simulator *sensor, uint32_t good_transfers, uint8_t code)
 {
+    simulator_break_after(sensor, good_transfers, SIMULATOR_NOT_MADE, code);
+}
+
+void simulator_break_after(struct simulator *sensor, uint32_t good_transfers, enum simulator_failure failure,
+                           uint8_t code)
+{
     sensor->good_transfers = good_transfers;
-    sensor->failure = code;
+    sensor->failure = failure;
+    sensor->failure_code = code;
 }
 
 void simulator_fail_one_in(struct simulator *sensor, uint32_t transfers)
@@ -100,6 +108,21 @@ static void clear_interrupt(struct simulator *sensor)
     }
 }
 
+static void end_measurement(struct simulator *sensor)
+{
+    sensor->measuring = false;
+    sensor->ready = true;
+    sensor->pages[0][0x1E] = (uint8_t)(sensor->distance >> 8);
+    sensor->pages[0][0x1F] = (uint8_t)sensor->distance;
+}
+
+void simulator_pass_time(struct simulator *sensor)
+{
+    if (sensor->measuring) {
+        end_measurement(sensor);
+    }
+}
+
 static void write_register(struct simulator *sensor, uint8_t reg, uint8_t byte)
 {
     if (reg == 0xFF) {
@@ -131,10 +154,7 @@ static bool is_idle(uint32_t *idle)
 static uint8_t interrupt_status(struct simulator *sensor)
 {
     if (sensor->measuring && !is_idle(&sensor->status_idle)) {
-        sensor->measuring = false;
-        sensor->ready = true;
-        sensor->pages[0][0x1E] = (uint8_t)(sensor->distance >> 8);
-        sensor->pages[0][0x1F] = (uint8_t)sensor->distance;
+        end_measurement(sensor);
     }
     return sensor->ready ? 0x44 : 0x40;
 }
@@ -157,13 +177,15 @@ static uint8_t read_register(struct simulator *sensor, uint8_t reg)
     return byte;
 }
 
-/* The failure code of this transfer, or 0. */
-static uint8_t failure(struct simulator *sensor, uint8_t address)
+/* The failure code of this transfer, or 0; whether the sensor sees it. */
+static uint8_t failure(struct simulator *sensor, uint8_t address, bool *made)
 {
-    if (sensor->failure != 0) {
+    *made = false;
+    if (sensor->failure_code != 0) {
         if (sensor->good_transfers == 0) {
-            uint8_t code = sensor->failure;
-            sensor->failure = 0;
+            uint8_t code = sensor->failure_code;
+            sensor->failure_code = 0;
+            *made = sensor->failure == SIMULATOR_REPLY_LOST;
             return code;
         }
         sensor->good_transfers--;
@@ -171,19 +193,13 @@ static uint8_t failure(struct simulator *sensor, uint8_t address)
     if (sensor->fails_one_in != 0 && below(sensor, sensor->fails_one_in) == 0) {
         return (uint8_t)(1 + below(sensor, 255));
     }
-    return address == sensor->address ? 0 : SIMULATOR_NOBODY_ANSWERS;
+    *made = address == sensor->address;
+    return *made ? 0 : SIMULATOR_NOBODY_ANSWERS;
 }
 
-uint8_t simulator_transfer(struct simulator *sensor, uint8_t address, const uint8_t *written, size_t count,
-                           uint8_t *read, size_t reads)
+/* The first byte names a register; each byte after it, written or read, goes to the next one. */
+static void make(struct simulator *sensor, const uint8_t *written, size_t count, uint8_t *read, size_t reads)
 {
-    sensor->transfers++;
-    uint8_t code = failure(sensor, address);
-    if (code != 0) {
-        sensor->last_failure = code;
-        return code;
-    }
-    /* The first byte names a register; each byte after it, written or read, goes to the next one. */
     uint8_t reg = written[0];
     for (size_t i = 1; i < count; i++) {
         write_register(sensor, reg++, written[i]);
@@ -191,5 +207,19 @@ uint8_t simulator_transfer(struct simulator *sensor, uint8_t address, const uint
     for (size_t i = 0; i < reads; i++) {
         read[i] = read_register(sensor, reg++);
     }
-    return 0;
+}
+
+uint8_t simulator_transfer(struct simulator *sensor, uint8_t address, const uint8_t *written, size_t count,
+                           uint8_t *read, size_t reads)
+{
+    bool made;
+    sensor->transfers++;
+    uint8_t code = failure(sensor, address, &made);
+    if (made) {
+        make(sensor, written, count, read, reads);
+    }
+    if (code != 0) {
+        sensor->last_failure = code;
+    }
+    return code;
 }

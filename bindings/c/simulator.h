@@ -1,4 +1,4 @@
-/* A simulated sensor on a simulated bus, for the example: registers, waits and failures. */
+/* A simulated sensor on a simulated bus, for the example and the tests: registers, waits and failures. */
 #ifndef SIMULATOR_H
 #define SIMULATOR_H
 
@@ -8,6 +8,9 @@
 
 /* The failure code of a transfer to an address that no device has. */
 enum { SIMULATOR_NOBODY_ANSWERS = 4 };
+
+/* How much of a transfer that fails is made: nothing, or all of it, but the reply does not arrive. */
+enum simulator_failure { SIMULATOR_NOT_MADE, SIMULATOR_REPLY_LOST };
 
 struct simulator {
     uint64_t random;
@@ -21,9 +24,10 @@ struct simulator {
     uint32_t detector_idle, start_idle, status_idle;
     uint32_t longest_wait;
     bool measuring, ready, continuous;
-    /* So many transfers succeed before one fails with this code; none fails while the code is 0. */
+    /* So many transfers succeed before one fails so and with this code; none fails while the code is 0. */
     uint32_t good_transfers;
-    uint8_t failure;
+    enum simulator_failure failure;
+    uint8_t failure_code;
     /* One transfer in so many fails with a random code; 0 for none. */
     uint32_t fails_one_in;
     uint8_t last_failure;
@@ -36,8 +40,15 @@ void simulator_power_up(struct simulator *sensor, uint64_t seed);
 /* What the sensor measures from now on, in millimetres. */
 void simulator_set_distance(struct simulator *sensor, uint16_t millimetres);
 
-/* So many transfers succeed, and the one after them fails with this code. */
+/* So many transfers succeed, and the one after them is not made and fails with this code. */
 void simulator_fail_after(struct simulator *sensor, uint32_t good_transfers, uint8_t code);
+
+/* As simulator_fail_after, with either kind of failure. */
+void simulator_break_after(struct simulator *sensor, uint32_t good_transfers, enum simulator_failure failure,
+                           uint8_t code);
+
+/* A while passes: a measurement that is under way ends. */
+void simulator_pass_time(struct simulator *sensor);
 
 /* From now on one transfer in so many fails, with a random code; none with 0. */
 void simulator_fail_one_in(struct simulator *sensor, uint32_t transfers);

@@ -114,8 +114,8 @@ uint8_t vl53l0x_fresh(uint8_t *session, size_t session_len);
 
 /*
  * Hands a record to a session. Writes the session that it leads to and the outcome, and returns byte 0 of the outcome.
- * If the record is not 8 bytes long the outcome is VL53L0X_SPARE_BYTES. If the session is not 52 bytes long, or its byte
- * 0 is above 1, it is none, and the outcome is VL53L0X_ILL_FORMED_SESSION. In both cases the session is as it was.
+ * If the record is not 8 bytes long the outcome is VL53L0X_SPARE_BYTES. If the session is not 52 bytes long, or its
+ * byte 0 is above 1, it is none, and the outcome is VL53L0X_ILL_FORMED_SESSION. In both cases the session is as it was.
  * If the outcome is not 11 bytes long: changes nothing and returns VL53L0X_NO_OUTCOME.
  */
 uint8_t vl53l0x_step(uint8_t *session, size_t session_len, const uint8_t *record, size_t record_len, uint8_t *outcome,

@@ -15,24 +15,42 @@
  *
  * Here sessions have 52 bytes, records 8 and outcomes 11. What vl53l0x.h says of memory and threads holds here too.
  *
- * After a failure (VL53L0X_BUS_ERROR, VL53L0X_TIMEOUT). The answers equal the Rust driver's, also where a caller would
- * not expect them. The session is right about what the driver knows; what the sensor has taken of the call is not
- * known. A reading that broke after the measurement leaves its interrupt pending, and the next reading is Done at once
- * with the old distance. A single reading, a start or a stop that broke may leave another page of registers selected:
- * the next call writes to other registers, and is Done while the sensor has not taken the budget, the window or the
- * limit.
+ * After a failure. That is after any answer VL53L0X_BUS_ERROR or VL53L0X_TIMEOUT. The answers equal the Rust driver's,
+ * also where a caller would not expect them: the session is right about what the driver knows, but what the sensor has
+ * taken of the call is not known, and the next call may be VL53L0X_DONE and wrong.
  *
- *   - So make one single reading (VL53L0X_READ_RANGE_SINGLE_MILLIMETERS_BLOCKING) that is Done, throw its value away,
- *     and then make the call again. It clears the interrupt and selects page 0 by its own writes.
- *   - While the sensor measures continuously, a single reading would end that: throw away one continuous reading that
- *     is Done. A start or a stop that failed is made again first, and then a reading of its kind is thrown away.
- *   - A change of address that failed may have been taken. If nothing answers at the old address, bring the sensor up
- *     at the new one (VL53L0X_WITH_ADDRESS).
- *   - A bring-up that failed may find another identity when it is made again, however often (VL53L0X_INVALID_DEVICE):
- *     the page is not 0. Call vl53l0x_select_page_0 before it is made again.
- *   - A sensor that is never ready costs a bring-up 65,561 transfers before VL53L0X_TIMEOUT.
- *   - No call reads whether a range is valid. To the driver "out of range" is a number, as a rule some 8190 mm. A
- *     caller has to know which distances can be.
+ *   - A single reading that broke may leave its interrupt pending, or a measurement under way that leaves it pending
+ *     later. The next single reading then answers at once with the old distance. Its own measurement ends after that,
+ *     so the reading after it may be one behind too, and so on.
+ *   - A single reading, a start or a stop that broke may leave page 1 of the registers selected. What the next call
+ *     sets goes to other registers; it is Done, and the sensor has not taken it.
+ *   - A bring-up that broke may leave another page selected too. Every bring-up after it is VL53L0X_INVALID_DEVICE.
+ *
+ * What to do. Each step has to be Done; where one is not, begin with the first again. "By hand" is
+ * vl53l0x_select_page_0.
+ *
+ *   - A single reading, VL53L0X_READ_RANGE_SINGLE_MILLIMETERS_BLOCKING: select page 0 by hand, make one single reading
+ *     and throw its value away, wait for longer than a measurement takes, which is about the timing budget, clear the
+ *     interrupt (VL53L0X_CLEAR_INTERRUPT_STATUS). Then read. In bindings/c/example.c this is `recover`.
+ *   - A reading while the sensor measures continuously: make one reading by
+ *     VL53L0X_READ_RANGE_CONTINUOUS_MILLIMETERS_BLOCKING and throw its value away. A single reading would stop the
+ *     measurements.
+ *   - A start of continuous measurements: select page 0 by hand, start again, throw one reading away.
+ *   - A stop: select page 0 by hand, stop again, then as after a single reading.
+ *   - A change of address: if nobody answers at the old address, bring the sensor up at the new one
+ *     (VL53L0X_WITH_ADDRESS); else change it again.
+ *   - A bring-up: select page 0 by hand, then bring up again.
+ *   - Any other call: make it again.
+ *
+ * And at any time:
+ *
+ *   - No call reads the range status. "Out of range" is a number to the driver, as a rule some 8190 mm. A caller has to
+ *     know which distances can be.
+ *   - A sensor that is never ready is answered VL53L0X_TIMEOUT only after many transfers: a bring-up makes 65,561 where
+ *     its first wait never ends, and up to 85,684 with every wait as long as it can be, which is 8.4 s at 400 kHz; a
+ *     single reading makes up to 20,008, which is 2 s.
+ *
+ * How often all this happens and that the recipes help was measured on a simulated sensor: bindings/README.md.
  *
  * Records. The records that a recorder was handed, one after the other from a fresh session on, are a file for the
  * program rolltrace, which prints every transfer and answer of them again.
@@ -140,9 +158,9 @@ static inline uint8_t vl53l0x_abandon(uint8_t *session, const struct vl53l0x_bus
 
 /*
  * The transfer function of a bus that leaves a read out where it belongs to a register write; the context is the inner
- * bus, a struct vl53l0x_bus. The Rust driver makes each register write as a write and a read of as many bytes, and does
- * not look at them. Here the write is made alone, and zeros stand for what was not read. The transfers are no longer
- * the Rust driver's; the answers are.
+ * bus, a struct vl53l0x_bus. The Rust driver makes each register write, but that of a new address, as a write and a
+ * read of one byte, six for the detector map, and does not look at them. Here the write is made alone, and zeros stand
+ * for what was not read. The transfers are no longer the Rust driver's; the answers are.
  */
 static inline int vl53l0x_plain_writes(void *context, uint8_t address, const uint8_t *written, size_t count,
                                        uint8_t *read, size_t reads)

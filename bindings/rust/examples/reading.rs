@@ -138,53 +138,92 @@ impl Reader {
         transfers - 1
     }
 
-    /// A reading after one that broke may be the old one. With one single reading thrown away between them it is not.
+    /// Runs one call; none if the bus broke it, else its value.
+    fn unless_broken(&mut self, call: Call) -> Option<u32> {
+        match self.call(call).0 {
+            Answer::BusError(code) => {
+                assert_eq!(Some(code), self.sensor.last_failure());
+                None
+            }
+            answer => Some(answer.into_result().expect("a call that did not break is Done")),
+        }
+    }
+
+    /// Longer than a measurement takes. On a machine this waits, for twice the timing budget, say.
+    fn pause_for_measurement(&mut self) {
+        self.sensor.pass_time();
+    }
+
+    /// What the crate's documentation says has to be done after a single reading that broke. None if one of the steps
+    /// broke too; then it is begun again. Tells the value that is thrown away.
+    fn recover(&mut self) -> Option<u32> {
+        let selected = select_page_0(&mut bus(&mut self.sensor, &mut self.records), self.session.address());
+        if let Err(code) = selected {
+            assert_eq!(Some(code), self.sensor.last_failure());
+            return None;
+        }
+        let thrown_away = self.unless_broken(SINGLE)?;
+        self.pause_for_measurement();
+        self.unless_broken(Call::ClearInterruptStatus)?;
+        Some(thrown_away)
+    }
+
+    /// The readings after one that broke may be old ones, each of them one behind. After `recover` they are not.
     fn read_after_failure(&mut self) {
         let broken = self.break_at_clearing(900);
         println!(
             "single reading at 900 mm: the bus failed with code {BROKEN} at transfer {broken}, \
              where the interrupt is cleared"
         );
+        self.sensor.pass_time();
         self.sensor.set_distance(100);
         self.done(SINGLE, 900);
         println!("the roll moves to 100 mm; the same call again: 900 mm, which is the old reading");
+        self.sensor.pass_time();
+        assert_eq!(self.sensor.word(0x1E), 100);
+        self.sensor.set_distance(200);
+        self.done(SINGLE, 100);
+        println!(
+            "a while later the roll moves to 200 mm; one more: 100 mm, one behind: throwing one away is not enough"
+        );
+        self.recover().expect("nothing breaks");
 
         self.break_at_clearing(900);
+        self.sensor.pass_time();
+        self.sensor.set_distance(200);
+        assert_eq!(self.recover(), Some(900));
+        self.sensor.pass_time();
         self.sensor.set_distance(100);
-        self.done(SINGLE, 900);
         self.done(SINGLE, 100);
-        println!("the same again, but one single reading is thrown away (900 mm), then: 100 mm");
+        println!(
+            "the same again, but recovered first (page 0 by hand, one reading thrown away: 900 mm, a pause, \
+             the interrupt cleared), then: 100 mm"
+        );
     }
 
-    /// One single reading; none if the bus broke it.
-    fn reading(&mut self) -> Option<u32> {
-        match self.call(SINGLE).0 {
-            Answer::BusError(code) => {
-                assert_eq!(Some(code), self.sensor.last_failure());
-                None
-            }
-            answer => Some(answer.into_result().expect("a reading that did not break is Done")),
-        }
-    }
-
-    /// A bus that breaks any transfer now and then.
+    /// A bus that breaks any transfer now and then. While a reading is recovered the roll is at 900 mm.
     fn read_on_noisy_bus(&mut self) {
         let mut broken = 0;
         self.sensor.fail_one_in(Some(100));
         for distance in 100..150 {
             self.sensor.set_distance(distance);
             let range = loop {
-                if let Some(range) = self.reading() {
+                if let Some(range) = self.unless_broken(SINGLE) {
                     break range;
                 }
                 broken += 1;
-                while self.reading().is_none() {}
+                self.sensor.pass_time();
+                self.sensor.set_distance(900);
+                while self.recover().is_none() {}
+                self.sensor.pass_time();
+                self.sensor.set_distance(distance);
             };
             assert_eq!(range, distance.into());
+            self.sensor.pass_time();
         }
         self.sensor.fail_one_in(None);
         println!(
-            "one transfer in 100 fails: 50 single readings are right, with one thrown away after each of the {broken} \
+            "one transfer in 100 fails: 50 single readings are right, with a recovery after each of the {broken} \
              that broke"
         );
     }
