@@ -12,6 +12,7 @@ mod fixed;
 mod random;
 mod sides;
 mod tally;
+mod traps;
 
 // From the repository's oracle: the calls as records and on the Rust driver with its answers by number, its panics as
 // places, and records that are refused.
@@ -67,6 +68,7 @@ fn main() {
     let mut tally = Tally::default();
     fixed::run(&mut tally);
     tally.assert_complete();
+    traps::run(&mut tally);
     for seed in seeds {
         random::run(seed, &mut tally);
     }
