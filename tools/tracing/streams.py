@@ -1,0 +1,60 @@
+"""What the commands read from and write to, and what they say where that fails."""
+
+import os
+import sys
+
+
+class Unusable(Exception):
+    """Something that cannot be read, written or run: which, and why."""
+
+
+class Input:
+    """A file, or standard input, read piece by piece."""
+
+    def __init__(self, name):
+        self.title = "standard input" if name == "-" else name
+        if name != "-":
+            self.file = self.tried(os.open, name, os.O_RDONLY)
+        elif sys.stdin is None:
+            raise Unusable("cannot read standard input: it is closed, or a directory")
+        else:
+            self.file = sys.stdin.fileno()
+
+    def read(self):
+        """What there is to read; nothing at the end."""
+        return self.tried(os.read, self.file, 1 << 16)
+
+    def tried(self, function, *arguments):
+        try:
+            return function(*arguments)
+        except OSError as error:
+            raise Unusable(f"cannot read {self.title}: {error.strerror}") from None
+
+
+def written(work):
+    """Does work that writes, and tells whether all was written. That nobody reads on, as in `showtrace | head`, is no
+    failure."""
+    try:
+        work()
+        sys.stdout.flush()
+        return True
+    except BrokenPipeError:
+        discard(sys.stdout)
+        return False
+
+
+def discard(stream):
+    """What is still in the stream goes nowhere, so that Python does not fail once more when it flushes that."""
+    nowhere = os.open(os.devnull, os.O_WRONLY)
+    os.dup2(nowhere, stream.fileno())
+    os.close(nowhere)
+
+
+def complain(name, text):
+    """One line on standard error. Where that takes none, the exit status has to tell."""
+    if sys.stderr is None:
+        return
+    try:
+        print(f"{name}: {text}", file=sys.stderr, flush=True)
+    except OSError:
+        discard(sys.stderr)
