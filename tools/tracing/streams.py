@@ -2,33 +2,39 @@
 
 import os
 import sys
+from contextlib import contextmanager
 
 
 class Unusable(Exception):
     """Something that cannot be read, written or run: which, and why."""
 
 
+@contextmanager
+def trying_to(do):
+    try:
+        yield
+    except OSError as error:
+        raise Unusable(f"cannot {do}: {error.strerror}") from None
+
+
 class Input:
     """A file, or standard input, read piece by piece."""
 
     def __init__(self, name):
-        self.title = "standard input" if name == "-" else name
-        if name != "-":
-            self.file = self.tried(os.open, name, os.O_RDONLY)
-        elif sys.stdin is None:
-            raise Unusable("cannot read standard input: it is closed, or a directory")
-        else:
+        if name == "-":
+            self.title = "standard input"
+            if sys.stdin is None:
+                raise Unusable("cannot read standard input: it is closed, or a directory")
             self.file = sys.stdin.fileno()
+        else:
+            self.title = name
+            with trying_to(f"read {name}"):
+                self.file = os.open(name, os.O_RDONLY)
 
     def read(self):
         """What there is to read; nothing at the end."""
-        return self.tried(os.read, self.file, 1 << 16)
-
-    def tried(self, function, *arguments):
-        try:
-            return function(*arguments)
-        except OSError as error:
-            raise Unusable(f"cannot read {self.title}: {error.strerror}") from None
+        with trying_to(f"read {self.title}"):
+            return os.read(self.file, 1 << 16)
 
 
 def written(work):
