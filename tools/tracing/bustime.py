@@ -5,9 +5,9 @@
 A register write of lib.rs also reads bytes back and ignores them; the second row leaves that read out. A write is a
 transfer that writes more than one byte, the register and what goes there.
 
-A transfer has a start bit, 9 bits for the address, 9 for each byte written, a stop bit, and, if it reads, one more start
-bit, 9 bits for the address and 9 for each byte read. Idle time between transfers and clock stretching are not counted,
-and a transfer that failed is counted as if it had not.
+A transfer has a start bit, 9 bits for the address, 9 for each byte written, a stop bit, and, if it reads, one more
+start bit, 9 bits for the address and 9 for each byte read. Idle time between transfers and clock stretching are not
+counted, and a transfer that failed is counted as if it had not.
 
 Exit status: 0; 2 if a line is no line of a trace, or if something cannot be read or written.
 """

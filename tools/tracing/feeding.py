@@ -1,7 +1,6 @@
 """The way of records through rolltrace, and whether each has had its line."""
 
 import os
-import signal
 from threading import Thread
 
 from .streams import Unusable
@@ -52,10 +51,6 @@ class Lines:
         return piece
 
 
-def ended_with(status):
-    return f"was ended by {signal.Signals(-status).name}" if status < 0 else f"ended with status {status}"
-
-
 def what_was_lost(feeding, lines, status):
     """Why the lines may not be those of the records, once rolltrace has ended with this status; None if they are."""
     if feeding.failure:
@@ -64,7 +59,7 @@ def what_was_lost(feeding, lines, status):
     had = f"{counted(lines.count, 'line')} for {counted(records, 'record')}{' and spare bytes' if spare else ''}"
     missing = records + bool(spare) - lines.count
     if status:
-        return f"rolltrace {ended_with(status)}: {had}"
+        return f"rolltrace ended {f'by signal {-status}' if status < 0 else f'with status {status}'}: {had}"
     if not feeding.ended:
         return f"rolltrace ended before its input: {had} or more"
     if missing:

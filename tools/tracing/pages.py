@@ -1,8 +1,8 @@
 """The page that each sensor may be on.
 
-What is written to 0xFF selects a page, on which the numbers of registers stand for others. lib.rs returns at once where
-a transfer fails (`?`), where a wait is given up and where it panics, and selects page 0 no more. A failed write may have
-reached the sensor or not.
+What is written to 0xFF selects a page, on which the numbers of registers stand for others. lib.rs returns at once
+where a transfer fails (`?`), where a wait is given up and where it panics, and selects page 0 no more. A failed write
+may have reached the sensor or not.
 """
 
 from .registers import REGISTERS

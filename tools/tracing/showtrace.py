@@ -2,10 +2,10 @@
 
     crates/rolltrace/out/rolltrace < samples/reading | tools/showtrace
 
-A trace has the transfers and the answer of each call, but not which call was begun and not the replies. The call is
-told here from its transfers and its answer; where two calls cannot be told apart, both are named. Reads of a wait
-stand once, with their count. `!!` marks what failed or was refused. Nearly every write of the driver also reads bytes
-and ignores them; these are not shown.
+tools/trace runs both. A trace has the transfers and the answer of each call, but not which call was begun and not the
+replies. The call is told here from its transfers and its answer; where two calls cannot be told apart, both are named.
+Reads of a wait stand once, with their count. `!!` marks what failed or was refused. Nearly every write of the driver
+also reads bytes and ignores them; these are not shown.
 
 A call that fails leaves the sensor on the page that it has selected, since lib.rs returns at once. Until a call
 selects a page again, `(page 1?)` stands at its transfers, and `?` after names that hold on page 0.

@@ -1,14 +1,14 @@
-"""Shows what the proved driver makes of records: runs them through rolltrace, and shows its trace as tools/showtrace does.
+"""Shows what the driver makes of records: runs them through rolltrace, and shows its trace as tools/showtrace does.
 
     tools/trace samples/reading              a sensor is brought up and read, call by call
     tools/trace --plain samples/reading      the lines of rolltrace as they are
     tools/trace < samples/reading            records from standard input, also while they are made
 
-A record has eight bytes (bindings/README.md, Layout). rolltrace prints one line for each, block by block, and one line
-`A 14 0 0` where bytes are spare at the end. Whether it did is checked here.
+A record has eight bytes (bindings/README.md, Layout). rolltrace prints one line for each, 2,048 records at a time, and
+one line `A 14 0 0` where bytes are spare at the end. Whether it did is checked here.
 
-Exit status: 0; 1 if something was lost or failed, with the reason on standard error; 2 for wrong usage. Where nothing was
-lost, what tools/showtrace finds in the trace: 1 and 2, as it says with --help.
+Exit status: 1 if something was lost or failed, with the reason on standard error; 2 for wrong usage; else that of
+tools/showtrace for the trace (tools/showtrace --help), and 0 with --plain.
 """
 
 import argparse
@@ -38,8 +38,8 @@ def the_built():
 
 @contextmanager
 def as_program(file):
-    """The file, or a copy of it that can be run: rt may have put it there from what an earlier run kept, and then not as
-    a program."""
+    """The file, or a copy that can be run: rt may have put it there from what an earlier run kept, and then not as a
+    program."""
     if os.access(file, os.X_OK):
         yield file.absolute()
         return
