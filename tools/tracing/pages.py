@@ -54,7 +54,8 @@ class Pages:
         elif failed:
             self.put(value, union(self.at(value), before))
         else:
-            self.put(address, PAGE_0)
+            # On another page than 0 this is another register, and the sensor keeps its address.
+            self.put(address, union(before, PAGE_0))
             self.put(value, before)
 
     def put(self, address, pages):
