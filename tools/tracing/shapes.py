@@ -5,8 +5,9 @@ such a list laid out, so that each step knows which steps may follow it.
 """
 
 import re
-from typing import Any, NamedTuple
+from typing import Any, NamedTuple, Optional
 
+from .pages import SELECTS_PAGE
 from .registers import REGISTERS
 
 
@@ -56,10 +57,8 @@ class Spot(NamedTuple):
     step: Step
     number: str  # of the register, in hexadecimal
     pattern: re.Pattern  # of the written bytes and the read length
-    register: str  # as it is shown
-    notes: str
     title: str  # of the section
-    page: int
+    page: Optional[int]  # that the call has selected, also by this step; None before it has selected any
 
 
 class Shape:
@@ -89,29 +88,14 @@ class Shape:
         for earlier in before:
             self.follows[earlier].append(at)
         self.follows[at] = [at] if step.limit else []
-        self.spots.append(spot_of(step, title, self.spots[-1].page if self.spots else 0))
+        self.spots.append(spot_of(step, title, self.spots[-1].page if self.spots else None))
         return at
 
 
 def spot_of(step, title, page):
-    """The spot of a step that finds this page selected."""
-    named = isinstance(step.register, str)
-    number = f"{REGISTERS[step.register] if named else step.register:02X}"
-    notes = []
-    # What is written to 0xFF selects a page, on which the numbers stand for other registers.
-    if number == "FF":
+    """The spot of a step before which the call has selected this page."""
+    number = REGISTERS.get(step.register, step.register)
+    if number == SELECTS_PAGE:
         page = int(step.written, 16)
-        notes.append(f"selects page {page}")
-    elif page:
-        notes.append(f"page {page}")
-    if step.limit:
-        notes.append(f"wait {step.until}")
-    return Spot(
-        step,
-        number,
-        re.compile(f"{number}{step.written} {step.reads}"),
-        f"0x{number} {step.register}" if named else f"0x{number}",
-        f" ({'; '.join(notes)})" if notes else "",
-        title,
-        page,
-    )
+    pattern = re.compile(f"{number:02X}{step.written} {step.reads}")
+    return Spot(step, f"{number:02X}", pattern, title, page)

@@ -36,7 +36,7 @@ def bus_error_marks(track):
     }
 
 
-def shown_rows(track, rows, marks, with_sections):
+def shown_rows(track, rows, marks, found, with_sections):
     spots, title, margin = track.shape.spots, "", ""
     for row, (fields, count) in enumerate(rows):
         at = track.steps[row]
@@ -46,7 +46,7 @@ def shown_rows(track, rows, marks, with_sections):
         if with_sections and spots[at].title != title:
             title, margin = spots[at].title, PLAIN
             yield f"{PLAIN}{title}"
-        text = transfer_text(track.shape, at, fields.body, count, track.reads[row])
+        text = transfer_text(track.shape, at, fields.body, count, track.reads[row], found)
         if row in marks:
             mark, words = marks[row]
             yield f"{mark}{margin}{text}  <- {words}"
@@ -62,7 +62,7 @@ class Told(NamedTuple):
     text: str  # the rows as they are shown
 
 
-def told_anew(lines, counts, number, place):
+def told_anew(lines, counts, number, place, found):
     rows = rows_of(lines, counts)
     tracks = [track for track in tracks_of(rows) if len(track.steps) == len(rows)]
     if number is not None:
@@ -72,7 +72,7 @@ def told_anew(lines, counts, number, place):
     # Calls that cannot be told apart have made the same transfers, so the rows of one are those of all.
     names = list(dict.fromkeys(track.shape.name for track in tracks))
     sensor = f", sensor at 0x{rows[0][0].address}" if rows else ""
-    shown = shown_rows(tracks[0], rows, marks_of(tracks[0], number), with_sections=len(names) == 1)
+    shown = shown_rows(tracks[0], rows, marks_of(tracks[0], number), found, with_sections=len(names) == 1)
     return Told(" or ".join(names) + sensor, tracks[0].shape, "".join([f"{line}\n" for line in shown]))
 
 
@@ -81,7 +81,8 @@ told_before = lru_cache(maxsize=1 << 10)(told_anew)
 SHORT = 20
 
 
-def told(lines, counts, number, place):
-    """What the rows of a call tell; None if no call fits. A call that waits has no number; only a panic has a place."""
+def told(lines, counts, number, place, found):
+    """What the rows of a call tell; None if no call fits. A call that waits has no number; only a panic has a place.
+    `found` are the pages that the sensor may have been on when the call began."""
     tell = told_before if len(lines) <= SHORT else told_anew
-    return tell(tuple(lines), tuple(counts), number, place)
+    return tell(tuple(lines), tuple(counts), number, place, found)

@@ -14,6 +14,7 @@ from .answers import (
     WOULD_BLOCK,
 )
 from .lines import remembered
+from .pages import PAGE_0, SELECTION, either
 
 # Headings begin at the left edge; all other lines leave room there for the mark.
 FAILED = "!! "
@@ -29,17 +30,39 @@ def refusal_text(answer, count):
     return f"refused: {REFUSALS[answer.number]} (answer {answer.number}){times}"
 
 
+def register_text(spot, doubted):
+    """The names that lib.rs has hold on the page that it means."""
+    number, name = f"0x{spot.number}", spot.step.register
+    return f"{number} {name}{'?' if doubted else ''}" if isinstance(name, str) else number
+
+
+def notes_of(spot, doubted, found):
+    if spot.number == SELECTION:
+        yield f"selects page {spot.page}"
+    elif doubted:
+        yield f"page {either(found)}?"
+    elif spot.page:
+        yield f"page {spot.page}"
+    if spot.step.limit:
+        yield f"wait {spot.step.until}"
+
+
 @remembered
-def transfer_text(shape, at, body, count, reads):
-    """A row of `count` equal transfers; `reads` are those of the whole wait so far."""
+def transfer_text(shape, at, body, count, reads, found):
+    """A row of `count` equal transfers; `reads` are those of the whole wait so far, `found` the pages that the sensor
+    may have been on when the call began."""
     spot = shape.spots[at]
+    doubted = spot.page is None and found != PAGE_0
+    register = register_text(spot, doubted)
+    notes = "; ".join(notes_of(spot, doubted, found))
+    notes = f" ({notes})" if notes else ""
     if spot.step.limit:
         total = f", {reads} in all" if reads > count else ""
-        return f"... read {spot.register} x {count}{total}{spot.notes}"
+        return f"... read {register} x {count}{total}{notes}"
     if spot.step.written:
         written = bytes.fromhex(body.split()[0])[1:].hex(" ").upper()
-        return f"write {spot.register} = {written}{spot.notes}"
-    return f"read  {spot.register}, {counted(spot.step.reads, 'byte')}{spot.notes}"
+        return f"write {register} = {written}{notes}"
+    return f"read  {register}, {counted(spot.step.reads, 'byte')}{notes}"
 
 
 @remembered

@@ -1,11 +1,14 @@
 """A trace shown from its first line to its last."""
 
-from .answers import DONE, PANIC, WOULD_BLOCK
+from .answers import BUS_ERROR, DONE, INVALID_DEVICE, PANIC, TIMEOUT, WOULD_BLOCK
 from .calls import MOST_TRANSFERS
-from .lines import LONGEST_LINE, Transfer, blocks_of, parse
+from .lines import NoTrace, Transfer, parse, trace_in
 from .matching import rows_of, tracks_of
+from .pages import PAGE_0, Pages, either
 from .telling import told
 from .texts import FAILED, PLAIN, counted, refusal_text, result_text
+
+MAY_LEAVE_A_PAGE = (BUS_ERROR, TIMEOUT, PANIC, INVALID_DEVICE)
 
 
 class View:
@@ -15,12 +18,15 @@ class View:
     def __init__(self, out):
         self.out = out
         self.status = 0
+        self.complaint = None  # about the line that broke the trace off
+        self.pages = Pages()
         self.forget()
 
     def forget(self):
         self.lines, self.counts = [], []  # of the call that waits; while none waits, of the last refusal
         self.transfers = 0  # of the call that waits; 0 while none waits
         self.line_number = 0  # of its first line
+        self.address, self.found = None, PAGE_0  # of its sensor: the address, and the pages that it may have been on
         self.misfit = False  # it has more transfers than any call, and its rows are shown as they come
 
     def write(self, line):
@@ -28,17 +34,19 @@ class View:
 
     def take(self, line_number, line, fields):
         if isinstance(fields, Transfer):
-            self.take_transfer(line_number, line)
+            self.take_transfer(line_number, line, fields)
         elif fields.number > PANIC:
             self.take_refusal(line)
         else:
             self.take_answer(line_number, line, fields)
 
-    def take_transfer(self, line_number, line):
+    def take_transfer(self, line_number, line, transfer):
         if not self.transfers:
             self.begin(line_number)
+            self.address, self.found = transfer.address, self.pages.at(transfer.address)
         self.transfers += 1
-        self.add(line)
+        if self.add(line):
+            self.pages.take(transfer)
         if self.transfers > MOST_TRANSFERS:
             self.show_misfit()
 
@@ -58,6 +66,10 @@ class View:
         else:
             self.add(line)
             self.show_misfit()
+        self.pages.settle(failed=number == BUS_ERROR)
+        left = self.pages.at(self.address)
+        if number in MAY_LEAVE_A_PAGE and left != PAGE_0:
+            self.write(f"{FAILED}the sensor may still be on page {either(left)}")
         if transfers != self.transfers:
             self.status = 1
             self.write(f"{FAILED}the answer tells {counted(transfers, 'transfer')}, but there are {self.transfers}")
@@ -70,15 +82,16 @@ class View:
         self.line_number = line_number
 
     def add(self, line):
-        """Equal lines that follow one another are one row."""
+        """Equal lines that follow one another are one row. Tells whether this one begins a row."""
         if self.lines and self.lines[-1] == line:
             self.counts[-1] += 1
-        else:
-            self.lines.append(line)
-            self.counts.append(1)
+            return False
+        self.lines.append(line)
+        self.counts.append(1)
+        return True
 
     def told(self, number, place):
-        return None if self.misfit else told(self.lines, self.counts, number, place)
+        return None if self.misfit else told(self.lines, self.counts, number, place, self.found)
 
     def show(self, call, mark, result):
         self.out.write(f"{call.heading}, line {self.line_number}\n{call.text}{self.end_line(mark, result)}")
@@ -117,17 +130,17 @@ class View:
         self.out.write("\n")
 
 
-def show_trace(stream, view):
-    """Shows a trace up to its end, or up to a line that is none of a trace; gives the complaint about that line."""
+def show_trace(read, view):
+    """Shows a trace up to its end, or up to a line that is none of a trace."""
     line_number = 0
-    for lines in blocks_of(stream):
-        for line in lines:
-            line_number += 1
-            fields = parse(line)
-            if fields is None:
-                view.end(FAILED, f"broken off by line {line_number}")
-                return f"line {line_number} is no line of a trace: {line[:LONGEST_LINE]!a}"
-            view.take(line_number, line, fields)
-        view.out.flush()
-    view.end(PLAIN, "still waiting")
-    return None
+    try:
+        for lines in trace_in(read):
+            for line, fields in lines:
+                line_number += 1
+                view.take(line_number, line, fields)
+            view.out.flush()
+    except NoTrace as complaint:
+        view.complaint, view.status = complaint, 2
+        view.end(FAILED, f"broken off by line {complaint.line_number}")
+    else:
+        view.end(PLAIN, "still waiting")
