@@ -1,7 +1,8 @@
 -- What is written part by part, and what is left to write.
-use Rattle.std.proofs.Common.{◌≡◌, ℕ, ◌+◌, ◌-◌, ◌*◌, ◌/◌, ◌%◌, ◌≤◌, List, [], ◌∷◌, ◌++◌, Option, None, Some, IfSome, Result, refl, sym, ap, subst, ◌∙◌, arith, append_assoc, length, take, drop, length-drop, take-append-drop}
-use lib.Seq.{take-add}
+use Rattle.std.proofs.Common.{◌≡◌, ℕ, ◌+◌, ◌-◌, ◌*◌, ◌/◌, ◌%◌, ◌≤◌, List, [], ◌∷◌, ◌++◌, Option, None, Some, IfSome, Result, refl, sym, ap, subst, ◌∙◌, arith, append_assoc, append-nil, length, take, drop, length-append, length-drop, take-append-drop}
+use lib.Seq.{take-add, take_all}
 use Rattle.console.specs.declared.failure.Failure.{Failure}
+use Rattle.std.specs.Prelude.{⊤}
 use Rattle.std.specs.Io.{StartsWith}
 use Rattle.std.specs.Io.KnownBytes.{Appends, Consumes, Keeps, IsAtEnd}
 use Rattle.std.proofs.KnownBytes.{Appends-trans, Appends-kept, Consumes-trans, Consumes-kept, Consumes-whole}
@@ -12,8 +13,10 @@ use Rattle.session.specs.Records.{records_of}
 use Rattle.reactions.specs.declared.Outcome.{Outcome}
 use Rattle.blocks.specs.Blocks.{lines_of, session_past}
 use Rattle.blocks.specs.Input.{after_lines, text_from}
-use Rattle.blocks.proofs.Laws.{blocks_join, part_whole, part_records}
-use Rattle.console.specs.Streams.{Writes, GoesOn}
+use Rattle.blocks.specs.Laws.{whole_part}
+use Rattle.blocks.proofs.Laws.{records_join, blocks_join, part_whole, part_records}
+use Rattle.console.specs.Failures.{IsRead, IsWrite, OnRead}
+use Rattle.console.specs.Streams.{Writes, Told, After}
 
 -- one write more, from k on
 pub put_more : (a b c : Option (List ℕ)) (l : List ℕ) (k n m : ℕ) → m ≡ k + n → k ≤ length l → n ≤ length (take (length l - k) (drop k l))
@@ -44,6 +47,28 @@ starts_after : (w z v : List ℕ) → StartsWith z v → StartsWith (w ++ z) (w 
 starts_after [] z v h = h
 starts_after (x ∷ w) z v h = ap (λ (l : List ℕ). x ∷ l) (starts_after w z v h)
 
+pub read_failed : (P : Type 0) (f : Failure) → P → OnRead P f
+read_failed P (Failure.Read e) p = p
+read_failed P (Failure.Write e) p = tt
+
+pub write_failed : (P : Type 0) (f : Failure) → IsWrite f → OnRead P f
+write_failed P (Failure.Read e) w = absurd w
+write_failed P (Failure.Write e) w = tt
+
+pub on_read : (P Q : Type 0) (f : Failure) → (P → Q) → OnRead P f → OnRead Q f
+on_read P Q (Failure.Read e) h p = h p
+on_read P Q (Failure.Write e) h p = tt
+
+abbrev pub told : (line : Outcome → List ℕ) (s : Session) (given left : Option (List ℕ)) (bytes w : List ℕ) → Consumes given left bytes
+    → w ≡ lines_of line s (records_of bytes) → Told line s given left w
+told line s given left bytes w p e = record { bytes = bytes; taken = p; lines = e }
+
+-- the text of the bytes that were left is `part`, and then the text of those that are left now, for the session t
+abbrev pub GoesOn : (Outcome → List ℕ) → List ℕ → Session → Option (List ℕ) → List ℕ → Session → Option (List ℕ) → Type 0
+GoesOn line spare s None part t left = ⊤
+GoesOn line spare s (Some bytes) part t None = ⊥
+GoesOn line spare s (Some bytes) part t (Some rest) = text_from line spare s bytes ≡ part ++ text_from line spare t rest
+
 module _ (line : Outcome → List ℕ) (spare : List ℕ) where
   -- the lines of what was read are the start of the text
   lines_start : (s : Session) (bs rest : List ℕ) → StartsWith (text_from line spare s (bs ++ rest)) (lines_of line s (records_of bs))
@@ -63,6 +88,11 @@ module _ (line : Outcome → List ℕ) (spare : List ℕ) where
   block_start s (Some xs) None bs w p h = absurd p
   block_start s (Some xs) (Some ys) bs w p h =
       subst (λ l. StartsWith (text_from line spare s l) w) (sym p) (starts_with_trans _ _ _ (lines_start s bs ys) h)
+
+  -- what was told is the start of the text
+  pub start_end : (s : Session) (given left : Option (List ℕ)) (w : List ℕ) → Told line s given left w
+      → IfSome given (λ bytes. StartsWith (text_from line spare s bytes) w)
+  start_end s given left w p = block_start s given left p.bytes w p.taken (rw (← p.lines) (take_all (length w) w (omega arith)))
 
   pub block_goes : (s t : Session) (given left : Option (List ℕ)) (bs w : List ℕ) → Consumes given left bs → length bs % 8 ≡ 0
       → w ≡ lines_of line s (records_of bs) → t ≡ session_past s (records_of bs) → GoesOn line spare s given w t left
@@ -97,13 +127,30 @@ module _ (line : Outcome → List ℕ) (spare : List ℕ) where
   whole_on s t (Some xs) None w v g h = absurd g
   whole_on s t (Some xs) (Some ys) w v g h = ap (λ (l : List ℕ). w ++ l) h ∙ sym g
 
-  pub goes_on : (s t u : Session) (given mid left : Option (List ℕ)) (w v : List ℕ) → GoesOn line spare s given w t mid → GoesOn line spare t mid v u left
-      → GoesOn line spare s given (w ++ v) u left
-  goes_on s t u None mid left w v g h = tt
-  goes_on s t u (Some xs) None left w v g h = absurd g
-  goes_on s t u (Some xs) (Some ys) None w v g h = absurd h
-  goes_on s t u (Some xs) (Some ys) (Some zs) w v g h = g ∙ ap (λ (l : List ℕ). w ++ l) h ∙ sym (append_assoc w v _)
+  -- more was read and told after whole records
+  abbrev pub told_on : (s t : Session) (given mid left : Option (List ℕ)) (w v : List ℕ) (p : Told line s given mid w) → length p.bytes % 8 ≡ 0
+      → t ≡ session_past s (records_of p.bytes) → Told line t mid left v → Told line s given left (w ++ v)
+  told_on s t given mid left w v p whole e q =
+      told line s given left (p.bytes ++ q.bytes) (w ++ v) (Consumes-trans given mid left p.bytes q.bytes p.taken q.taken)
+      (rw (p.lines, q.lines, e) (sym ((blocks_join line spare).lines s p.bytes q.bytes whole)))
 
-  pub goes_from : (s : Session) (given : Option (List ℕ)) → GoesOn line spare s given [] s given
-  goes_from s None = tt
-  goes_from s (Some xs) = refl
+  pub block_on : (s t u : Session) (given mid left : Option (List ℕ)) (w v : List ℕ) → After line spare s given w (Some t) mid
+      → After line spare t mid v (Some u) left → After line spare s given (w ++ v) (Some u) left
+  block_on s t u given mid left w v (p, whole, e) (q, whole', e') = (
+    told_on s t given mid left w v p whole e q,
+    omega (arith, whole, whole', length-append p.bytes q.bytes),
+    rw (e', e) (sym ((blocks_join line spare).session s p.bytes q.bytes whole)),
+  )
+
+  -- the text of what was told
+  pub told_text : (s : Session) (given left : Option (List ℕ)) (w : List ℕ) → Told line s given left w
+      → (bytes : List ℕ) × Consumes given left bytes × (w ≡ text_from line spare s (whole_part bytes))
+  unfolding text_from after_lines
+  told_text s given left w p =
+      (p.bytes, p.taken, rw (part_whole p.bytes, part_records p.bytes) (p.lines ∙ sym (append-nil _)))
+
+  -- before the first block
+  pub block_none : (s : Session) (given : Option (List ℕ)) → After line spare s given [] (Some s) given
+  unfolding lines_of session_past records_of
+  block_none s None = (told line s None None [] [] tt refl, refl, refl)
+  block_none s (Some xs) = (told line s (Some xs) (Some xs) [] [] refl refl, refl, refl)

@@ -33,3 +33,8 @@ FailedToRead r = IfErr r IsRead
 
 abbrev pub FailedToWrite : {A : Type 0} → Result A Failure → Type 0
 FailedToWrite r = IfErr r IsWrite
+
+-- what is said where reading failed
+abbrev pub OnRead : Type 0 → Failure → Type 0
+OnRead P (Failure.Read e) = P
+OnRead P (Failure.Write e) = ⊤
