@@ -191,13 +191,15 @@ static inline void vl53l0x_plain_writes_recorder(void *context, const uint8_t *r
 
 /*
  * Selects page 0 of a sensor's registers by one write alone, outside every session: only while no call waits on that
- * sensor. Returns what the bus does, 0 or minus a failure code. It is no record, and no recorder sees it.
+ * sensor. Returns 0 or minus a failure code, VL53L0X_SHORT_READ where the bus returns neither. It is no record, and no
+ * recorder sees it.
  */
 static inline int vl53l0x_select_page_0(const struct vl53l0x_bus *bus, uint8_t address)
 {
     static const uint8_t page_0[] = {0xFF, 0x00};
     uint8_t nothing[1] = {0};
-    return bus->transfer(bus->context, address, page_0, sizeof page_0, nothing, 0);
+    int result = bus->transfer(bus->context, address, page_0, sizeof page_0, nothing, 0);
+    return result >= -255 && result <= 0 ? result : -VL53L0X_SHORT_READ;
 }
 
 #ifdef __cplusplus
