@@ -334,13 +334,19 @@ static void plain_results(void)
     }
 }
 
-/* One write alone, FF 00, which no recorder sees; what the bus says of it is returned. */
+/* One write alone, FF 00, which no recorder sees; a failure is returned, and any count but 0 is one. */
 static void page_0(void)
 {
+    static const int results[][2] = {{-1, -1},
+                                     {-255, -255},
+                                     {-256, -VL53L0X_SHORT_READ},
+                                     {1, -VL53L0X_SHORT_READ},
+                                     {INT_MAX, -VL53L0X_SHORT_READ},
+                                     {INT_MIN, -VL53L0X_SHORT_READ}};
     static struct state state;
     uint8_t call[VL53L0X_RECORD_SIZE];
     a_call(&state, call, VL53L0X_WHO_AM_I);
-    const struct vl53l0x_bus bus = bus_of(&state.line);
+    struct vl53l0x_bus bus = bus_of(&state.line);
     state.line.sensor.page = 1;
     CHECK(vl53l0x_select_page_0(&bus, 0x29) == 0);
     CHECK(state.line.sensor.page == 0 && state.line.transfers == 1 && state.line.records == 0);
@@ -348,6 +354,12 @@ static void page_0(void)
     CHECK(state.line.written[0] == 0xFF && state.line.written[1] == 0x00);
     CHECK(vl53l0x_select_page_0(&bus, 0x30) == -SIMULATOR_NOBODY_ANSWERS);
     CHECK(state.line.address == 0x30);
+    for (size_t i = 0; i < sizeof results / sizeof *results; i++) {
+        bus = bus_of(&state.line);
+        state.line.odd_at = 1;
+        state.line.odd = results[i][0];
+        CHECK(vl53l0x_select_page_0(&bus, 0x29) == results[i][1]);
+    }
 }
 
 int main(void)

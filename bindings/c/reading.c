@@ -25,6 +25,10 @@ int main(void)
         vl53l0x_put_call(record, VL53L0X_READ_RANGE_SINGLE_MILLIMETERS_BLOCKING, 0, 0);
         if (vl53l0x_drive(session, &bus, record, outcome) == VL53L0X_DONE) {
             printf("%lu mm\n", (unsigned long)vl53l0x_answer_value(outcome));
+            if (fclose(stdout) != 0) {
+                perror("standard output");
+                return 1;
+            }
             return 0;
         }
     }

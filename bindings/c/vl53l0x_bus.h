@@ -41,9 +41,15 @@
  *     (VL53L0X_WITH_ADDRESS); else change it again.
  *   - A bring-up: select page 0 by hand, then bring up again.
  *   - Any other call: make it again.
+ *   - A single reading that was taken up again (vl53l0x_go_on) and is Done: throw its value away too, which may be the
+ *     distance of before the stop, and go on as after a single reading that broke.
+ *   - A session that was lost, as when a program ends in the middle of a call: as after a bring-up that broke. The
+ *     first bring-up may be VL53L0X_TIMEOUT where the sensor was measuring continuously.
  *
  * And at any time:
  *
+ *   - A session does not notice that its sensor was without power. What the bring-up loaded is gone, and a reading is
+ *     Done all the same. Bring the sensor up again.
  *   - No call reads the range status. "Out of range" is a number to the driver, as a rule some 8190 mm. A caller has to
  *     know which distances can be.
  *   - A sensor that is never ready is answered VL53L0X_TIMEOUT only after many transfers: a bring-up makes 65,561 where
@@ -70,6 +76,8 @@ enum { VL53L0X_SHORT_READ = 255 };
 /*
  * Makes one transfer: writes `count` bytes to a device and then reads `reads` bytes from it, at most as many; with 0 it
  * is a write alone. Returns how many bytes it has read (0 for a write alone), or minus a failure code.
+ * A status above 0, which some bus libraries have for a failure, is not to be returned as it is: 2 says that both bytes
+ * of a range were read, and would make it 0 mm.
  */
 typedef int vl53l0x_transfer(void *context, uint8_t address, const uint8_t *written, size_t count, uint8_t *read,
                              size_t reads);
@@ -127,6 +135,8 @@ static inline uint8_t vl53l0x_drive(uint8_t *session, const struct vl53l0x_bus *
 /*
  * Takes a waiting call up again, of a session that was put away: makes the transfer that is out, and drives the call to
  * its answer. Where no call waits, the outcome is that of vl53l0x_outstanding and no transfer is made.
+ * All 52 bytes have to be those that were put away, which nothing checks: with zeros for the last of them, as after a
+ * file that was cut short, a reading may be VL53L0X_DONE with 0 mm.
  */
 static inline uint8_t vl53l0x_go_on(uint8_t *session, const struct vl53l0x_bus *bus, uint8_t *outcome)
 {
@@ -191,13 +201,15 @@ static inline void vl53l0x_plain_writes_recorder(void *context, const uint8_t *r
 
 /*
  * Selects page 0 of a sensor's registers by one write alone, outside every session: only while no call waits on that
- * sensor. Returns what the bus does, 0 or minus a failure code. It is no record, and no recorder sees it.
+ * sensor. Returns 0 or minus a failure code, VL53L0X_SHORT_READ where the bus returns neither. It is no record, and no
+ * recorder sees it.
  */
 static inline int vl53l0x_select_page_0(const struct vl53l0x_bus *bus, uint8_t address)
 {
     static const uint8_t page_0[] = {0xFF, 0x00};
     uint8_t nothing[1] = {0};
-    return bus->transfer(bus->context, address, page_0, sizeof page_0, nothing, 0);
+    int result = bus->transfer(bus->context, address, page_0, sizeof page_0, nothing, 0);
+    return result >= -255 && result <= 0 ? result : -VL53L0X_SHORT_READ;
 }
 
 #ifdef __cplusplus

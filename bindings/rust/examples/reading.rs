@@ -8,7 +8,7 @@ use std::io::{BufWriter, Write};
 use std::num::NonZeroU8;
 use std::{env, process};
 use vl53l0x_session::{
-    drive, go_on, select_page_0, Answer, Bus, Call, Gone, PlainWrites, Recorded, Session, DEFAULT_ADDRESS,
+    drive, go_on, select_page_0, Answer, Bus, Call, Gone, Outcome, PlainWrites, Recorded, Session, DEFAULT_ADDRESS,
 };
 use vl53l0x_simulator::Simulator;
 
@@ -233,7 +233,7 @@ impl Reader {
         let mut gone = Recorded::new(Gone(BUS_IS_GONE), |record: &[u8; 8]| self.records.write(record));
         let record = SINGLE.record();
         gone.record(&record);
-        self.session.step(&record);
+        assert!(matches!(self.session.step(&record), Outcome::Transfer(_)));
         assert_eq!(go_on(&mut self.session, &mut gone), (Answer::BusError(BUS_IS_GONE), 1));
         assert_eq!(self.session.code(), 0);
         println!("the bus is gone: the call that waits is given up with code {BUS_IS_GONE} after 1 transfer");

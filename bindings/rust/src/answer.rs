@@ -5,6 +5,7 @@ use core::num::NonZeroU8;
 
 /// The numbered answers, in the names of the Rust driver's errors where it has one. The first nine end a call; the
 /// others refuse a record and leave the session as it was.
+#[must_use = "a call may have failed"]
 #[derive(Clone, Copy, Debug, PartialEq, Eq)]
 pub enum Answer {
     /// The call succeeded; the value is the Rust driver's number, or 0.

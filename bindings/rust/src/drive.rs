@@ -12,7 +12,8 @@ pub fn drive<B: Bus + ?Sized>(session: &mut Session, bus: &mut B, call: Call) ->
 }
 
 /// Takes a call that waits up again at the transfer that is out, in a session that was put away, and runs it to its
-/// answer. Where no call waits the answer is [`Answer::NoCallWaits`].
+/// answer. Where no call waits the answer is [`Answer::NoCallWaits`]; where the session is none that waits in its call,
+/// [`Answer::IllFormedSession`].
 pub fn go_on<B: Bus + ?Sized>(session: &mut Session, bus: &mut B) -> (Answer, u32) {
     let outcome = session.outstanding();
     to_the_answer(session, bus, outcome)

@@ -92,6 +92,10 @@
 //!   again.
 //! - A bring-up: select page 0 by hand, then bring up again.
 //! - Any other call: make it again.
+//! - A single reading that was taken up again ([`go_on`]) and is Done: throw its value away too, which may be the
+//!   distance of before the stop, and go on as after a single reading that broke.
+//! - A session that was lost, as when a program ends in the middle of a call: as after a bring-up that broke. The first
+//!   bring-up may be [`Answer::Timeout`] where the sensor was measuring continuously.
 //!
 //! ```
 //! use vl53l0x_session::{drive, select_page_0, Answer, Bus, Call, Session};
@@ -126,6 +130,8 @@
 //!
 //! And at any time:
 //!
+//! - A session does not notice that its sensor was without power. What the bring-up loaded is gone, and a reading is
+//!   Done all the same. Bring the sensor up again.
 //! - No call reads the range status. "Out of range" is a number to the driver, as a rule some 8190 mm. A caller has to
 //!   know which distances can be.
 //! - A sensor that is never ready is answered [`Answer::Timeout`] only after many transfers: a bring-up makes up to

@@ -3,6 +3,7 @@
 use crate::Answer;
 
 /// What a record leads to: a transfer to be made, or an answer.
+#[must_use = "a transfer may have to be made, or the call may have failed"]
 #[derive(Clone, Copy, Debug, PartialEq, Eq)]
 pub enum Outcome {
     /// This transfer is to be made, and its reply handed in.

@@ -111,11 +111,12 @@ impl Bus for Counting {
 #[test]
 fn a_bus_inside_another_is_handed_the_records_too() {
     let mut plain = PlainWrites(Counting(0));
-    drive(&mut Session::new(), &mut plain, Call::NEW);
+    let gone = (Answer::BusError(CODE), 1);
+    assert_eq!(drive(&mut Session::new(), &mut plain, Call::NEW), gone);
     assert_eq!(plain.0 .0, 2);
     let (mut inner, mut outer) = (0, 0);
     let bus = Recorded::new(Gone(CODE), |_: &[u8; 8]| inner += 1);
-    drive(&mut Session::new(), &mut Recorded::new(bus, |_: &[u8; 8]| outer += 1), Call::NEW);
+    assert_eq!(drive(&mut Session::new(), &mut Recorded::new(bus, |_: &[u8; 8]| outer += 1), Call::NEW), gone);
     assert_eq!((inner, outer), (2, 2));
 }
 

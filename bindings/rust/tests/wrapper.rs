@@ -192,7 +192,7 @@ fn a_reply_has_as_many_bytes_as_the_transfer_reads() {
         (Call::ReadRangeSingleMillimetersBlocking, 1),
     ] {
         let mut waiting = session.clone();
-        waiting.begin(call);
+        assert!(matches!(waiting.begin(call), Outcome::Transfer(_)), "{call:?}");
         let before = waiting.clone();
         for length in (0..=8).filter(|length| *length != reads) {
             assert_eq!(waiting.reply(Ok(&[0; 8][..length])), refused(Answer::IllFormedRecord), "{call:?}");

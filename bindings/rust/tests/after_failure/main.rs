@@ -5,6 +5,7 @@
 mod bring_ups;
 mod longest;
 mod readings;
+mod restarts;
 mod rig;
 mod settings;
 
@@ -89,6 +90,9 @@ fn what_follows_a_failure() {
     settings::the_next_setting(&mut table);
     settings::after_set_address(&mut table);
     bring_ups::the_next_bring_up(&mut table);
+    restarts::a_reading_goes_on(&mut table);
+    restarts::the_session_is_lost(&mut table);
+    restarts::the_sensor_was_without_power(&mut table);
     longest::timeouts(&mut table);
     println!("{table}");
     assert!(table.to_string() == STORED, "the figures are not those that are stored");

@@ -1,7 +1,7 @@
 //! A sensor with its session, calls that break on it, and what a caller does then.
 
 use std::num::NonZeroU8;
-use vl53l0x_session::{drive, select_page_0, Answer, Call, Session, DEFAULT_ADDRESS};
+use vl53l0x_session::{drive, go_on, select_page_0, Answer, Call, Outcome, Session, DEFAULT_ADDRESS};
 use vl53l0x_simulator::{Failure, Simulator, Wait, NOBODY_ANSWERS};
 
 pub const SINGLE: Call = Call::ReadRangeSingleMillimetersBlocking;
@@ -87,6 +87,28 @@ impl Rig {
         })
     }
 
+    /// The call left at each of its transfers, before that is made, and when it is made and its reply not handed in.
+    pub fn left(&self, call: Call) -> Vec<Rig> {
+        let (mut rig, mut rigs) = (self.clone(), Vec::new());
+        let mut outcome = rig.session.begin(call);
+        while let Outcome::Transfer(transfer) = outcome {
+            let mut data = [0; 6];
+            let read = &mut data[..transfer.reads()];
+            rigs.push(rig.clone());
+            rig.sensor.transfer(transfer.address(), transfer.written(), read).expect("no failure");
+            rigs.push(rig.clone());
+            outcome = rig.session.reply(Ok(read));
+        }
+        assert!(matches!(outcome, Outcome::Answer { answer: Answer::Done(_), .. }), "{call:?}: {outcome:?}");
+        rigs
+    }
+
+    /// The call that was left is taken up again.
+    pub fn go_on(&mut self) -> Answer {
+        let mut bus = |address: u8, write: &[u8], read: &mut [u8]| self.sensor.transfer(address, write, read);
+        go_on(&mut self.session, &mut bus).0
+    }
+
     /// The roll moves.
     pub fn moved(mut self, millimetres: u16) -> Self {
         self.sensor.set_distance(millimetres);
@@ -101,7 +123,7 @@ impl Rig {
 
     /// The call is made, whatever it answers.
     pub fn after(mut self, call: Call) -> Self {
-        self.call(call);
+        let _ = self.call(call);
         self
     }
 

@@ -105,11 +105,7 @@ pub fn after_set_address(table: &mut Table) {
         for (mut rig, _) in Rig::up(seed).broken(Call::SetAddress(0x30)) {
             let moved = rig.call(Call::WhoAmI) == Answer::BusError(NOBODY_ANSWERS);
             gone.add(moved);
-            if moved {
-                rig.call(Call::WithAddress(0x30));
-            } else {
-                rig.call(Call::SetAddress(0x30));
-            }
+            let rig = rig.after(if moved { Call::WithAddress(0x30) } else { Call::SetAddress(0x30) });
             found.add(rig.session.address() == 0x30 && rig.moved(AFTER).gives(SINGLE, AFTER));
         }
     }
