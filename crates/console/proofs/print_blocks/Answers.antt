@@ -7,9 +7,9 @@ use Rattle.console.proofs.print_blocks.Goals as goal
 pub returns-in_err-next : goal.returns-in_err-next
 returns-in_err-next g c =
     let (_, _, (before, appended, (told, whole, past))) = c.loop.invariant in
-    let goes = block_goes _ _ _ _ _ _ told.bytes _ told.taken whole told.lines past in
     let p = c.in_err-next.ensures.prints in
     let passed : c.from_residual.result ≡ Err c.in_err-next.field-0.0 = search rules in
+    let goes = block_goes _ g.S.Show.spare _ _ _ _ _ _ told.taken whole told.lines past in
     record {
       written = before ++ p.written;
       appended = Appends-trans _ _ _ _ _ appended p.appended;
@@ -23,7 +23,7 @@ returns-in_err-next g c =
 pub returns-in-None : goal.returns-in-None
 returns-in-None g c =
     let (_, _, (before, appended, (told, whole, past))) = c.loop.invariant in
-    let goes = block_goes _ _ _ _ _ _ _ _ told.taken whole told.lines past in
+    let goes = block_goes _ g.S.Show.spare _ _ _ _ _ _ told.taken whole told.lines past in
     let p = c.in_ok-next.ensures.prints in
     let after = rw c.in-None.is at p.after in
     record {
