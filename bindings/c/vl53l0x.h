@@ -192,7 +192,7 @@ static inline void vl53l0x_put_failure(uint8_t *record, uint8_t code)
 }
 
 /*
- * The argument A of VL53L0X_SET_SIGNAL_RATE_LIMIT: a limit in million counts a second. The answer to a negative one, to
+ * The argument A of VL53L0X_SET_SIGNAL_RATE_LIMIT: a limit in million counts a second. The answer to one below 0, to
  * one above 511.99 and to a NaN is VL53L0X_FALSE.
  */
 static inline uint32_t vl53l0x_float_bits(float limit)
