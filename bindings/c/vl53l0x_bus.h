@@ -83,8 +83,8 @@ enum {
 /*
  * Makes one transfer: writes `count` bytes to a device and then reads `reads` bytes from it; with 0 it is a write
  * alone. Tells in *got how many bytes were read, which is 0 before. Returns 0, or whatever number the bus's own
- * failures have. Only 0 with as many bytes as were asked for is a good transfer: a status that is handed through as it
- * is, or a *got that is forgotten, becomes no distance.
+ * failures have. Only 0 with as many bytes as were asked for is a good transfer. So a status that is handed through as
+ * it is, or a *got that is forgotten, never becomes a distance.
  */
 typedef int vl53l0x_transfer(void *context, uint8_t address, const uint8_t *written, size_t count, uint8_t *read,
                              size_t reads, size_t *got);
