@@ -35,11 +35,15 @@ static void give_up(const char *what)
 
 /* The two functions of the bus; the context is the reader. */
 
-static int transfer(void *context, uint8_t address, const uint8_t *written, size_t count, uint8_t *read, size_t reads)
+static int transfer(void *context, uint8_t address, const uint8_t *written, size_t count, uint8_t *read, size_t reads,
+                    size_t *got)
 {
     struct reader *reader = (struct reader *)context;
-    uint8_t code = simulator_transfer(&reader->sensor, address, written, count, read, reads);
-    return code == 0 ? (int)reads : -code;
+    int code = simulator_transfer(&reader->sensor, address, written, count, read, reads);
+    if (code == 0) {
+        *got = reads;
+    }
+    return code;
 }
 
 static void record_in_file(void *context, const uint8_t *record)
@@ -96,11 +100,19 @@ static uint32_t call(struct reader *reader, uint8_t answer, uint8_t code, uint32
     return value(reader);
 }
 
+/* The distance of a reading, which has to be Done. */
+static uint32_t range(const struct reader *reader)
+{
+    uint32_t distance = 0;
+    expect("whether there is a distance", (uint32_t)vl53l0x_done_value(reader->outcome, &distance), 1);
+    return distance;
+}
+
 /* One single reading, which has to be this distance. */
 static void expect_reading(struct reader *reader, uint16_t distance)
 {
-    uint32_t range = call(reader, VL53L0X_DONE, VL53L0X_READ_RANGE_SINGLE_MILLIMETERS_BLOCKING, 0);
-    expect("the single reading", range, distance);
+    drive_call(reader, VL53L0X_READ_RANGE_SINGLE_MILLIMETERS_BLOCKING, 0);
+    expect("the single reading", range(reader), distance);
 }
 
 static uint8_t bring_up(struct reader *reader)
@@ -130,7 +142,7 @@ static void bring_up_after_failure(struct reader *reader)
     expect("the identity", value(reader), reader->sensor.pages[1][0xC0]);
     printf("bring-up again: identity 0x%02X is not 0xEE, for the sensor is still on page 1\n", (unsigned)value(reader));
 
-    expect("the bus's result", (uint32_t)vl53l0x_select_page_0(&bus, VL53L0X_DEFAULT_ADDRESS), 0);
+    expect("the bus's result", vl53l0x_select_page_0(&bus, VL53L0X_DEFAULT_ADDRESS), 0);
     expect("the page", reader->sensor.page, 0);
     printf("page 0 selected by hand\n");
 
@@ -156,16 +168,17 @@ static void read_single(struct reader *reader, uint16_t distance)
 {
     simulator_set_distance(&reader->sensor, distance);
     expect_reading(reader, distance);
-    printf("single reading: %lu mm after %lu transfers\n", (unsigned long)value(reader),
+    printf("single reading: %lu mm after %lu transfers\n", (unsigned long)range(reader),
            (unsigned long)transfers(reader));
 }
 
 static void read_continuous(struct reader *reader, uint16_t distance)
 {
     simulator_set_distance(&reader->sensor, distance);
-    uint32_t range = call(reader, VL53L0X_DONE, VL53L0X_READ_RANGE_CONTINUOUS_MILLIMETERS_BLOCKING, 0);
-    expect("the continuous reading", range, distance);
-    printf("continuous reading: %lu mm after %lu transfers\n", (unsigned long)range, (unsigned long)transfers(reader));
+    drive_call(reader, VL53L0X_READ_RANGE_CONTINUOUS_MILLIMETERS_BLOCKING, 0);
+    expect("the continuous reading", range(reader), distance);
+    printf("continuous reading: %lu mm after %lu transfers\n", (unsigned long)range(reader),
+           (unsigned long)transfers(reader));
 }
 
 /*
@@ -212,15 +225,15 @@ static void pause_for_measurement(struct reader *reader)
 static bool recover(struct reader *reader, uint32_t *thrown_away)
 {
     const struct vl53l0x_bus bus = bus_of(reader);
-    int result = vl53l0x_select_page_0(&bus, vl53l0x_session_address(reader->session));
-    if (result != 0) {
-        expect("the bus's result", (uint32_t)-result, reader->sensor.last_failure);
+    uint8_t code = vl53l0x_select_page_0(&bus, vl53l0x_session_address(reader->session));
+    if (code != 0) {
+        expect("the failure code", code, reader->sensor.last_failure);
         return false;
     }
     if (!is_done(reader, VL53L0X_READ_RANGE_SINGLE_MILLIMETERS_BLOCKING)) {
         return false;
     }
-    *thrown_away = value(reader);
+    *thrown_away = range(reader);
     pause_for_measurement(reader);
     return is_done(reader, VL53L0X_CLEAR_INTERRUPT_STATUS);
 }
@@ -238,13 +251,13 @@ static void read_after_failure(struct reader *reader)
     simulator_set_distance(sensor, 100);
     expect_reading(reader, 900);
     printf("the roll moves to 100 mm; the same call again: %lu mm, which is the old reading\n",
-           (unsigned long)value(reader));
+           (unsigned long)range(reader));
     simulator_pass_time(sensor);
     expect("what was measured meanwhile", simulator_word(sensor, 0x1E), 100);
     simulator_set_distance(sensor, 200);
     expect_reading(reader, 100);
     printf("a while later the roll moves to 200 mm; one more: %lu mm, one behind: throwing one away is not enough\n",
-           (unsigned long)value(reader));
+           (unsigned long)range(reader));
     expect("recovered", recover(reader, &thrown_away), true);
 
     break_at_clearing(reader, 900);
@@ -257,7 +270,7 @@ static void read_after_failure(struct reader *reader)
     expect_reading(reader, 100);
     printf("the same again, but recovered first (page 0 by hand, one reading thrown away: %lu mm, a pause, "
            "the interrupt cleared), then: %lu mm\n",
-           (unsigned long)thrown_away, (unsigned long)value(reader));
+           (unsigned long)thrown_away, (unsigned long)range(reader));
 }
 
 /* A bus that breaks any transfer now and then. While a reading is recovered the roll is at 900 mm. */
@@ -277,7 +290,7 @@ static void read_on_noisy_bus(struct reader *reader)
             simulator_pass_time(sensor);
             simulator_set_distance(sensor, distance);
         }
-        expect("the single reading", value(reader), distance);
+        expect("the single reading", range(reader), distance);
         simulator_pass_time(sensor);
     }
     simulator_fail_one_in(sensor, 0);
@@ -304,15 +317,14 @@ static void abandon_reading(struct reader *reader)
 static void read_with_plain_writes(struct reader *reader, uint16_t distance)
 {
     struct vl53l0x_bus inner = bus_of(reader);
-    struct vl53l0x_bus plain = {vl53l0x_plain_writes, vl53l0x_plain_writes_recorder, NULL};
+    const struct vl53l0x_bus plain = vl53l0x_with_plain_writes(&inner);
     uint8_t record[VL53L0X_RECORD_SIZE];
-    plain.context = &inner;
 
     simulator_set_distance(&reader->sensor, distance);
     vl53l0x_put_call(record, VL53L0X_READ_RANGE_SINGLE_MILLIMETERS_BLOCKING, 0, 0);
     expect("the answer", drive_on(reader, &plain, record), VL53L0X_DONE);
-    expect("the single reading", value(reader), distance);
-    printf("with plain writes: single reading %lu mm after %lu transfers\n", (unsigned long)value(reader),
+    expect("the single reading", range(reader), distance);
+    printf("with plain writes: single reading %lu mm after %lu transfers\n", (unsigned long)range(reader),
            (unsigned long)transfers(reader));
 }
 

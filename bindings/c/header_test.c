@@ -63,6 +63,20 @@ static void sessions(void)
     CHECK(vl53l0x_session_carried(session) == session + 28);
 }
 
+/* Of all outcomes only the answer Done has a value to be taken. */
+static void done_values(void)
+{
+    for (unsigned number = 0; number <= 255; number++) {
+        const uint8_t outcome[VL53L0X_OUTCOME_SIZE] = {(uint8_t)number, 0x78, 0x56, 0x34, 0x12, 17, 0, 0, 0, 0, 0};
+        uint32_t value = 505;
+        if (number == VL53L0X_DONE) {
+            CHECK(vl53l0x_done_value(outcome, &value) == 1 && value == 0x12345678);
+        } else {
+            CHECK(vl53l0x_done_value(outcome, &value) == 0 && value == 505);
+        }
+    }
+}
+
 /* What the library says to one record. */
 static uint8_t step(uint8_t *session, const uint8_t *record)
 {
@@ -135,6 +149,8 @@ static void numbers(void)
     CHECK(begin(session, VL53L0X_SET_INTERRUPT_THRESHOLDS_MM, 301, 300) == VL53L0X_INVALID_ARGUMENT);
     CHECK(begin(session, VL53L0X_SET_MEASUREMENT_TIMING_BUDGET, 19999, 0) == VL53L0X_FALSE);
     CHECK(begin(session, VL53L0X_SET_SIGNAL_RATE_LIMIT, vl53l0x_float_bits(-1.0f), 0) == VL53L0X_FALSE);
+    CHECK(begin(session, VL53L0X_SET_SIGNAL_RATE_LIMIT, vl53l0x_float_bits(512.0f), 0) == VL53L0X_FALSE);
+    CHECK(begin(session, VL53L0X_SET_SIGNAL_RATE_LIMIT, 0x7FC00000 /* a NaN */, 0) == VL53L0X_FALSE);
     CHECK(begin(session, VL53L0X_SET_GPIO_CONFIG, VL53L0X_OUT_OF_WINDOW + 1, 0) == VL53L0X_ILL_FORMED_RECORD);
     CHECK(begin(session, VL53L0X_SET_GPIO_CONFIG, 0, VL53L0X_ACTIVE_HIGH + 1) == VL53L0X_ILL_FORMED_RECORD);
     CHECK(begin(session, VL53L0X_READ_RANGE_MM, 0, 0) == VL53L0X_TRANSFER);
@@ -261,6 +277,31 @@ static void replies(void)
     no_reply_to_an_answer();
 }
 
+/* Bytes that were put away: 52 of them with byte 0 at most 1 are a session, all others make a fresh one. */
+static void bytes_put_away(void)
+{
+    static const uint8_t first[] = {0, 1, 2, 255};
+    uint8_t fresh[VL53L0X_SESSION_SIZE], bytes[60];
+    CHECK(vl53l0x_fresh(fresh, sizeof fresh) == 0);
+    for (size_t i = 0; i < sizeof first; i++) {
+        for (size_t count = 0; count <= sizeof bytes; count++) {
+            uint8_t session[VL53L0X_SESSION_SIZE];
+            memset(session, 0xAA, sizeof session);
+            memset(bytes, 0, sizeof bytes);
+            bytes[0] = first[i];
+            bytes[1] = 0x29;
+            bytes[VL53L0X_SESSION_SIZE - 1] = 0x55;
+            uint8_t result = vl53l0x_session_from_bytes(session, bytes, count);
+            if (count == 52 && first[i] <= 1) {
+                CHECK(result == 0 && same(session, bytes, sizeof session));
+            } else {
+                CHECK(result == VL53L0X_ILL_FORMED_SESSION && same(session, fresh, sizeof session));
+                CHECK(begin(session, VL53L0X_READ_RANGE_SINGLE_MILLIMETERS_BLOCKING, 0, 0) == VL53L0X_NOT_UP);
+            }
+        }
+    }
+}
+
 static void texts(void)
 {
     for (unsigned i = 0; i <= VL53L0X_NO_OUTCOME; i++) {
@@ -279,11 +320,13 @@ int main(void)
 {
     records();
     outcomes();
+    done_values();
     sessions();
     numbers();
     calls();
     timeout();
     replies();
+    bytes_put_away();
     texts();
     if (failures == 0) {
         printf("the header agrees with the layout and the library\n");

@@ -2,16 +2,21 @@
 #ifndef LINE_H
 #define LINE_H
 
+#include "check.h"
 #include "simulator.h"
 #include "vl53l0x_bus.h"
 
 enum { MOST_RECORDS = 400 };
 
+/* The count of bytes that is not told. */
+#define UNTOUCHED SIZE_MAX
+
 struct line {
     struct simulator sensor;
-    /* Which transfer from now on has another result than it should, 0 for none; this result. */
+    /* Which transfer from now on ends otherwise than it should, 0 for none; what it returns, and what it tells. */
     uint32_t odd_at;
     int odd;
+    size_t odd_got;
     /* What has come by. */
     uint32_t transfers, reads_at_writes, records;
     uint8_t record[MOST_RECORDS][VL53L0X_RECORD_SIZE];
@@ -20,9 +25,10 @@ struct line {
 };
 
 static inline int transfer(void *context, uint8_t address, const uint8_t *written, size_t count, uint8_t *read,
-                           size_t reads)
+                           size_t reads, size_t *got)
 {
     struct line *line = (struct line *)context;
+    CHECK(*got == 0);
     line->transfers++;
     line->reads_at_writes += count > 1 && reads > 0;
     line->address = address;
@@ -30,10 +36,12 @@ static inline int transfer(void *context, uint8_t address, const uint8_t *writte
     line->count = (uint8_t)count;
     line->reads = (uint8_t)reads;
     uint8_t code = simulator_transfer(&line->sensor, address, written, count, read, reads);
-    if (line->transfers == line->odd_at) {
-        return line->odd;
+    bool odd = line->transfers == line->odd_at;
+    size_t told = odd ? line->odd_got : code == 0 ? reads : 0;
+    if (told != UNTOUCHED) {
+        *got = told;
     }
-    return code == 0 ? (int)reads : -code;
+    return odd ? line->odd : code;
 }
 
 static inline void recorder(void *context, const uint8_t *record)

@@ -4,11 +4,15 @@
 
 #include <stdio.h>
 
-/* Returns how many bytes it has read, or minus a failure code. On a real bus this is all that is to be written. */
-static int transfer(void *context, uint8_t address, const uint8_t *written, size_t count, uint8_t *read, size_t reads)
+/* Returns 0 or a failure code; tells how many bytes it has read. On a real bus this is all that is to be written. */
+static int transfer(void *context, uint8_t address, const uint8_t *written, size_t count, uint8_t *read, size_t reads,
+                    size_t *got)
 {
-    uint8_t code = simulator_transfer((struct simulator *)context, address, written, count, read, reads);
-    return code == 0 ? (int)reads : -code;
+    int code = simulator_transfer((struct simulator *)context, address, written, count, read, reads);
+    if (code == 0) {
+        *got = reads;
+    }
+    return code;
 }
 
 int main(void)
@@ -16,6 +20,7 @@ int main(void)
     static struct simulator sensor;
     const struct vl53l0x_bus bus = {transfer, NULL, &sensor};
     uint8_t session[VL53L0X_SESSION_SIZE], record[VL53L0X_RECORD_SIZE], outcome[VL53L0X_OUTCOME_SIZE];
+    uint32_t range;
     simulator_power_up(&sensor, 1);
     simulator_set_distance(&sensor, 505);
 
@@ -23,8 +28,8 @@ int main(void)
     vl53l0x_put_new(record);
     if (vl53l0x_drive(session, &bus, record, outcome) == VL53L0X_DONE) {
         vl53l0x_put_call(record, VL53L0X_READ_RANGE_SINGLE_MILLIMETERS_BLOCKING, 0, 0);
-        if (vl53l0x_drive(session, &bus, record, outcome) == VL53L0X_DONE) {
-            printf("%lu mm\n", (unsigned long)vl53l0x_answer_value(outcome));
+        if (vl53l0x_drive(session, &bus, record, outcome) == VL53L0X_DONE && vl53l0x_done_value(outcome, &range)) {
+            printf("%lu mm\n", (unsigned long)range);
             if (fclose(stdout) != 0) {
                 perror("standard output");
                 return 1;

@@ -191,7 +191,7 @@ static uint8_t failure(struct simulator *sensor, uint8_t address, bool *made)
         sensor->good_transfers--;
     }
     if (sensor->fails_one_in != 0 && below(sensor, sensor->fails_one_in) == 0) {
-        return (uint8_t)(1 + below(sensor, 255));
+        return (uint8_t)(1 + below(sensor, SIMULATOR_LAST_CODE));
     }
     *made = address == sensor->address;
     return *made ? 0 : SIMULATOR_NOBODY_ANSWERS;

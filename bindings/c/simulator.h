@@ -9,6 +9,9 @@
 /* The failure code of a transfer to an address that no device has. */
 enum { SIMULATOR_NOBODY_ANSWERS = 4 };
 
+/* The failure codes are 1 to this one, which are those that a bus may have of its own. */
+enum { SIMULATOR_LAST_CODE = 253 };
+
 /* How much of a transfer that fails is made: nothing, or all of it, but the reply does not arrive. */
 enum simulator_failure { SIMULATOR_NOT_MADE, SIMULATOR_REPLY_LOST };
 

@@ -26,6 +26,13 @@
 #include <stdint.h>
 #include <string.h>
 
+/* Before a function whose result has to be looked at: GCC and clang warn where it is not. */
+#if defined(__GNUC__) || defined(__clang__)
+#define VL53L0X_MUST_CHECK __attribute__((warn_unused_result))
+#else
+#define VL53L0X_MUST_CHECK
+#endif
+
 #ifdef __cplusplus
 extern "C" {
 #endif
@@ -184,7 +191,10 @@ static inline void vl53l0x_put_failure(uint8_t *record, uint8_t code)
     }
 }
 
-/* The argument A of VL53L0X_SET_SIGNAL_RATE_LIMIT: a limit in million counts a second. */
+/*
+ * The argument A of VL53L0X_SET_SIGNAL_RATE_LIMIT: a limit in million counts a second. The answer to one below 0, to
+ * one above 511.99 and to a NaN is VL53L0X_FALSE.
+ */
 static inline uint32_t vl53l0x_float_bits(float limit)
 {
     uint32_t bits;
@@ -235,9 +245,20 @@ static inline void vl53l0x_put_reply_to(uint8_t *record, const uint8_t *outcome,
 
 /* An outcome that is an answer: byte 0 is 0 to 15. */
 
+/* What it is depends on the answer: a distance is taken by vl53l0x_done_value. */
 static inline uint32_t vl53l0x_answer_value(const uint8_t *outcome)
 {
     return vl53l0x_get_low_first_32(outcome + 1);
+}
+
+/* Returns 1 and tells the value where the outcome is the answer VL53L0X_DONE. Else returns 0, and *value stays. */
+VL53L0X_MUST_CHECK static inline int vl53l0x_done_value(const uint8_t *outcome, uint32_t *value)
+{
+    if (outcome[0] != VL53L0X_DONE) {
+        return 0;
+    }
+    *value = vl53l0x_answer_value(outcome);
+    return 1;
 }
 
 /* The transfers that the call made; 0 for a refusal. */
@@ -270,6 +291,21 @@ static inline const char *vl53l0x_answer_text(uint8_t number)
         "the outcome is not 11 bytes long",
     };
     return number < sizeof texts / sizeof *texts ? texts[number] : "no number of the library";
+}
+
+/*
+ * Makes a session of the bytes of one that was put away, and returns 0. If they are not 52, or byte 0 is above 1: makes
+ * a fresh one, which refuses every call but a bring-up (VL53L0X_NOT_UP), and returns VL53L0X_ILL_FORMED_SESSION.
+ */
+VL53L0X_MUST_CHECK static inline uint8_t vl53l0x_session_from_bytes(uint8_t *session, const uint8_t *bytes,
+                                                                    size_t count)
+{
+    if (count != VL53L0X_SESSION_SIZE || bytes[0] > 1) {
+        vl53l0x_fresh(session, VL53L0X_SESSION_SIZE);
+        return VL53L0X_ILL_FORMED_SESSION;
+    }
+    memcpy(session, bytes, VL53L0X_SESSION_SIZE);
+    return 0;
 }
 
 /* A session. The first four are zero while the sensor is not up. */

@@ -2,16 +2,17 @@
  * Calls of the VL53L0X driver on a bus, for C99 and C++.
  *
  *   static int transfer(void *context, uint8_t address, const uint8_t *written, size_t count, uint8_t *read,
- *                       size_t reads) { ... }
+ *                       size_t reads, size_t *got) { ... }
  *
  *   const struct vl53l0x_bus bus = {transfer, NULL, NULL};
  *   uint8_t session[VL53L0X_SESSION_SIZE], record[VL53L0X_RECORD_SIZE], outcome[VL53L0X_OUTCOME_SIZE];
+ *   uint32_t range;
  *   vl53l0x_fresh(session, sizeof session);
  *   vl53l0x_put_new(record);
  *   if (vl53l0x_drive(session, &bus, record, outcome) == VL53L0X_DONE) {
  *       vl53l0x_put_call(record, VL53L0X_READ_RANGE_SINGLE_MILLIMETERS_BLOCKING, 0, 0);
- *       if (vl53l0x_drive(session, &bus, record, outcome) == VL53L0X_DONE) {
- *           ... vl53l0x_answer_value(outcome) are the millimetres
+ *       if (vl53l0x_drive(session, &bus, record, outcome) == VL53L0X_DONE && vl53l0x_done_value(outcome, &range)) {
+ *           ... range is the distance in millimetres
  *
  * Here sessions have 52 bytes, records 8 and outcomes 11. What vl53l0x.h says of memory and threads holds here too.
  *
@@ -45,6 +46,9 @@
  *     distance of before the stop, and go on as after a single reading that broke.
  *   - A session that was lost, as when a program ends in the middle of a call: as after a bring-up that broke. The
  *     first bring-up may be VL53L0X_TIMEOUT where the sensor was measuring continuously.
+ *   - An answer VL53L0X_PANIC: an argument, or a number in the sensor's registers, is one that the Rust driver's
+ *     arithmetic cannot take, and the same call is answered so again; make it with a smaller period or budget, and
+ *     where it has neither, or that is no help, select page 0 by hand and bring up again.
  *
  * And at any time:
  *
@@ -70,19 +74,22 @@
 extern "C" {
 #endif
 
-/* The failure code of a transfer that read another count of bytes than asked. Codes of a bus's own are 1 to 254. */
-enum { VL53L0X_SHORT_READ = 255 };
+/* Failure codes of transfers. Those of a bus's own are 1 to 253. */
+enum {
+    VL53L0X_OTHER_FAILURE = 254, /* the bus returned a number that is no code: below 0 or above 253 */
+    VL53L0X_SHORT_READ = 255     /* the bus returned 0, but told another count of bytes than was asked for */
+};
 
 /*
- * Makes one transfer: writes `count` bytes to a device and then reads `reads` bytes from it, at most as many; with 0 it
- * is a write alone. Returns how many bytes it has read (0 for a write alone), or minus a failure code.
- * A status above 0, which some bus libraries have for a failure, is not to be returned as it is: 2 says that both bytes
- * of a range were read, and would make it 0 mm.
+ * Makes one transfer: writes `count` bytes to a device and then reads `reads` bytes from it; with 0 it is a write
+ * alone. Tells in *got how many bytes were read, which is 0 before. Returns 0, or whatever number the bus's own
+ * failures have. Only 0 with as many bytes as were asked for is a good transfer. So a status that is handed through as
+ * it is, or a *got that is forgotten, never becomes a distance.
  */
 typedef int vl53l0x_transfer(void *context, uint8_t address, const uint8_t *written, size_t count, uint8_t *read,
-                             size_t reads);
+                             size_t reads, size_t *got);
 
-/* Is handed every record before the session is. */
+/* Is handed every record before the session is. It cannot report: a failure of its own it keeps in its context. */
 typedef void vl53l0x_recorder(void *context, const uint8_t *record);
 
 struct vl53l0x_bus {
@@ -101,22 +108,31 @@ static inline uint8_t vl53l0x_hand_in(uint8_t *session, const struct vl53l0x_bus
     return vl53l0x_step(session, VL53L0X_SESSION_SIZE, record, VL53L0X_RECORD_SIZE, outcome, VL53L0X_OUTCOME_SIZE);
 }
 
-/*
- * Makes the transfer of an outcome, and the record of its reply. If the bus returns neither the count that was asked
- * for nor a failure, the transfer has failed with VL53L0X_SHORT_READ.
- */
+/* The failure code of a transfer that was to read so many bytes, by what it returned and told; 0 if it is good. */
+static inline uint8_t vl53l0x_failure_code(int result, size_t reads, size_t got)
+{
+    if (result < 0 || result >= VL53L0X_OTHER_FAILURE) {
+        return VL53L0X_OTHER_FAILURE;
+    }
+    if (result == 0 && got != reads) {
+        return VL53L0X_SHORT_READ;
+    }
+    return (uint8_t)result;
+}
+
+/* Makes the transfer of an outcome, and the record of its reply. */
 static inline void vl53l0x_make_transfer(const struct vl53l0x_bus *bus, const uint8_t *outcome, uint8_t *record)
 {
     uint8_t data[VL53L0X_MOST_READ] = {0};
     uint8_t reads = vl53l0x_transfer_reads(outcome);
+    size_t got = 0;
     int result = bus->transfer(bus->context, vl53l0x_transfer_address(outcome), vl53l0x_transfer_written(outcome),
-                               vl53l0x_transfer_count(outcome), data, reads);
-    if (result == reads) {
-        vl53l0x_put_reply_to(record, outcome, data, reads);
-    } else if (result >= -255 && result < 0) {
-        vl53l0x_put_failure(record, (uint8_t)-result);
+                               vl53l0x_transfer_count(outcome), data, reads, &got);
+    uint8_t code = vl53l0x_failure_code(result, reads, got);
+    if (code == 0) {
+        vl53l0x_put_reply_to(record, outcome, data, got);
     } else {
-        vl53l0x_put_failure(record, VL53L0X_SHORT_READ);
+        vl53l0x_put_failure(record, code);
     }
 }
 
@@ -124,7 +140,8 @@ static inline void vl53l0x_make_transfer(const struct vl53l0x_bus *bus, const ui
  * Hands a record in and makes every transfer up to the answer; the records of the replies are put where it was. The
  * outcome is the answer. Returns its byte 0.
  */
-static inline uint8_t vl53l0x_drive(uint8_t *session, const struct vl53l0x_bus *bus, uint8_t *record, uint8_t *outcome)
+VL53L0X_MUST_CHECK static inline uint8_t vl53l0x_drive(uint8_t *session, const struct vl53l0x_bus *bus, uint8_t *record,
+                                                       uint8_t *outcome)
 {
     while (vl53l0x_hand_in(session, bus, record, outcome) == VL53L0X_TRANSFER) {
         vl53l0x_make_transfer(bus, outcome, record);
@@ -135,10 +152,12 @@ static inline uint8_t vl53l0x_drive(uint8_t *session, const struct vl53l0x_bus *
 /*
  * Takes a waiting call up again, of a session that was put away: makes the transfer that is out, and drives the call to
  * its answer. Where no call waits, the outcome is that of vl53l0x_outstanding and no transfer is made.
- * All 52 bytes have to be those that were put away, which nothing checks: with zeros for the last of them, as after a
- * file that was cut short, a reading may be VL53L0X_DONE with 0 mm.
+ * All 52 bytes have to be those that were put away: with zeros for the last of them, as after a file that was cut
+ * short, a reading may be VL53L0X_DONE with 0 mm. A session from a file is made by vl53l0x_session_from_bytes, which
+ * refuses another count of bytes.
  */
-static inline uint8_t vl53l0x_go_on(uint8_t *session, const struct vl53l0x_bus *bus, uint8_t *outcome)
+VL53L0X_MUST_CHECK static inline uint8_t vl53l0x_go_on(uint8_t *session, const struct vl53l0x_bus *bus,
+                                                       uint8_t *outcome)
 {
     uint8_t record[VL53L0X_RECORD_SIZE];
     if (vl53l0x_outstanding(session, VL53L0X_SESSION_SIZE, outcome, VL53L0X_OUTCOME_SIZE) != VL53L0X_TRANSFER) {
@@ -149,7 +168,7 @@ static inline uint8_t vl53l0x_go_on(uint8_t *session, const struct vl53l0x_bus *
 }
 
 /*
- * Ends a waiting call where the bus is gone: every transfer that it still asks for fails with this code, 1 to 254, and
+ * Ends a waiting call where the bus is gone: every transfer that it still asks for fails with this code, 1 to 253, and
  * the answer is VL53L0X_BUS_ERROR. That is one record, or two where the range read of a reading is out, after which its
  * interrupt is still to be cleared. Of the bus, which may be null, only the recorder is used. Where no call waits, the
  * outcome is that of vl53l0x_outstanding. With code 0 the record is refused (VL53L0X_ILL_FORMED_RECORD), and the call
@@ -166,31 +185,24 @@ static inline uint8_t vl53l0x_abandon(uint8_t *session, const struct vl53l0x_bus
     return outcome[0];
 }
 
-/*
- * The transfer function of a bus that leaves a read out where it belongs to a register write; the context is the inner
- * bus, a struct vl53l0x_bus. The Rust driver makes each register write, but that of a new address, as a write and a
- * read of one byte, six for the detector map, and does not look at them. Here the write is made alone, and zeros stand
- * for what was not read. The transfers are no longer the Rust driver's; the answers are.
- */
+/* Internal parts of vl53l0x_with_plain_writes: its transfer function and its recorder. The context is the inner bus. */
+
 static inline int vl53l0x_plain_writes(void *context, uint8_t address, const uint8_t *written, size_t count,
-                                       uint8_t *read, size_t reads)
+                                       uint8_t *read, size_t reads, size_t *got)
 {
     const struct vl53l0x_bus *inner = (const struct vl53l0x_bus *)context;
     if (count == 1 || reads == 0) {
-        return inner->transfer(inner->context, address, written, count, read, reads);
+        return inner->transfer(inner->context, address, written, count, read, reads, got);
     }
-    int result = inner->transfer(inner->context, address, written, count, read, 0);
-    if (result > 0) {
-        return -VL53L0X_SHORT_READ;
-    }
-    if (result == 0) {
+    size_t none = 0;
+    int result = inner->transfer(inner->context, address, written, count, read, 0, &none);
+    if (result == 0 && none == 0) {
         memset(read, 0, reads);
-        return (int)reads;
+        *got = reads;
     }
     return result;
 }
 
-/* The recorder of a bus with vl53l0x_plain_writes: that of the inner bus, if it has one. */
 static inline void vl53l0x_plain_writes_recorder(void *context, const uint8_t *record)
 {
     const struct vl53l0x_bus *inner = (const struct vl53l0x_bus *)context;
@@ -200,16 +212,29 @@ static inline void vl53l0x_plain_writes_recorder(void *context, const uint8_t *r
 }
 
 /*
+ * A bus that leaves a read out where it belongs to a register write, over an inner bus, which has to last as long. The
+ * Rust driver makes each register write, but that of a new address, as a write and a read of one byte, six for the
+ * detector map, and does not look at them. Here the write is made alone, and zeros stand for what was not read. The
+ * transfers are no longer the Rust driver's; the answers are. Records go to the inner bus's recorder, if it has one.
+ */
+static inline struct vl53l0x_bus vl53l0x_with_plain_writes(struct vl53l0x_bus *inner)
+{
+    struct vl53l0x_bus bus = {vl53l0x_plain_writes, vl53l0x_plain_writes_recorder, inner};
+    return bus;
+}
+
+/*
  * Selects page 0 of a sensor's registers by one write alone, outside every session: only while no call waits on that
- * sensor. Returns 0 or minus a failure code, VL53L0X_SHORT_READ where the bus returns neither. It is no record, and no
+ * sensor. Returns 0, or the failure code that vl53l0x_make_transfer would report, 1 to 255. It is no record, and no
  * recorder sees it.
  */
-static inline int vl53l0x_select_page_0(const struct vl53l0x_bus *bus, uint8_t address)
+VL53L0X_MUST_CHECK static inline uint8_t vl53l0x_select_page_0(const struct vl53l0x_bus *bus, uint8_t address)
 {
     static const uint8_t page_0[] = {0xFF, 0x00};
     uint8_t nothing[1] = {0};
-    int result = bus->transfer(bus->context, address, page_0, sizeof page_0, nothing, 0);
-    return result >= -255 && result <= 0 ? result : -VL53L0X_SHORT_READ;
+    size_t got = 0;
+    int result = bus->transfer(bus->context, address, page_0, sizeof page_0, nothing, 0, &got);
+    return vl53l0x_failure_code(result, 0, got);
 }
 
 #ifdef __cplusplus
