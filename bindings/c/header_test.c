@@ -75,6 +75,9 @@ static void done_values(void)
             CHECK(vl53l0x_done_value(outcome, &value) == 0 && value == 505);
         }
     }
+    static const uint8_t nothing[VL53L0X_OUTCOME_SIZE] = {0};
+    uint32_t value = 505;
+    CHECK(vl53l0x_done_value(nothing, &value) == 0 && value == 505);
 }
 
 /* What the library says to one record. */

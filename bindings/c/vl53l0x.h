@@ -251,20 +251,23 @@ static inline uint32_t vl53l0x_answer_value(const uint8_t *outcome)
     return vl53l0x_get_low_first_32(outcome + 1);
 }
 
-/* Returns 1 and tells the value where the outcome is the answer VL53L0X_DONE. Else returns 0, and *value stays. */
-VL53L0X_MUST_CHECK static inline int vl53l0x_done_value(const uint8_t *outcome, uint32_t *value)
-{
-    if (outcome[0] != VL53L0X_DONE) {
-        return 0;
-    }
-    *value = vl53l0x_answer_value(outcome);
-    return 1;
-}
-
 /* The transfers that the call made; 0 for a refusal. */
 static inline uint32_t vl53l0x_answer_transfers(const uint8_t *outcome)
 {
     return vl53l0x_get_low_first_32(outcome + 5);
+}
+
+/*
+ * Returns 1 and tells the value where the outcome is the answer VL53L0X_DONE. Else returns 0, and *value stays. A call
+ * that is Done has made a transfer: zeros that nobody wrote there are no answer.
+ */
+VL53L0X_MUST_CHECK static inline int vl53l0x_done_value(const uint8_t *outcome, uint32_t *value)
+{
+    if (outcome[0] != VL53L0X_DONE || vl53l0x_answer_transfers(outcome) == 0) {
+        return 0;
+    }
+    *value = vl53l0x_answer_value(outcome);
+    return 1;
 }
 
 /* What the functions return, and byte 0 of an outcome, in words. */
