@@ -29,6 +29,7 @@ def show(read):
     all_written = written(lambda: show_trace(read, view))
     if view.complaint:
         complain("showtrace", view.complaint)
+        return FAILURE, all_written
     return view.status, all_written
 
 
