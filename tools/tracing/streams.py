@@ -14,7 +14,7 @@ def trying_to(do):
     try:
         yield
     except OSError as error:
-        raise Unusable(f"cannot {do}: {error.strerror}") from None
+        raise Unusable(f"cannot {do}: {error.strerror or error}") from None
 
 
 class Input:

@@ -54,14 +54,14 @@ def as_program(file):
 @contextmanager
 def started(file):
     """The program, with pipes to and from it. It ends when this does."""
-    with as_program(file) as program:
-        with trying_to(f"run {file}"):
-            process = subprocess.Popen([program], stdin=subprocess.PIPE, stdout=subprocess.PIPE, bufsize=0)
-        try:
-            yield process
-        finally:
-            process.kill()
-            process.wait()
+    # A copy is gone as soon as it runs, so that none is left where a signal ends this command.
+    with as_program(file) as program, trying_to(f"run {file}"):
+        process = subprocess.Popen([program], stdin=subprocess.PIPE, stdout=subprocess.PIPE, bufsize=0)
+    try:
+        yield process
+    finally:
+        process.kill()
+        process.wait()
 
 
 def copy_lines(read):
