@@ -8,7 +8,8 @@ Reads of a wait stand once, with their count. `!!` marks what failed or was refu
 also reads bytes and ignores them; these are not shown.
 
 A call that fails leaves the sensor on the page that it has selected, since lib.rs returns at once. Until a call
-selects a page again, `(page 1?)` stands at its transfers, and `?` after names that hold on page 0.
+selects a page again, `(page 1?)` stands at its transfers, and `?` after names that hold on page 0. Each sensor is taken
+to be on page 0 where the trace begins, and a page that was selected by hand is in no trace.
 
 Exit status: 0; 1 if some lines fit no call, or if an answer tells another number of transfers than there are; 2 if a
 line is no line of a trace, or if something cannot be read or written.
