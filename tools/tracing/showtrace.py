@@ -25,13 +25,13 @@ FAILURE = 2
 
 
 def show(read):
-    """Shows what there is to read as a trace; gives the exit status, and whether all was written."""
+    """Shows what there is to read as a trace; gives the exit status."""
     view = View(sys.stdout)
-    all_written = written(lambda: show_trace(read, view))
+    written(lambda: show_trace(read, view))
     if view.complaint:
         complain("showtrace", view.complaint)
-        return FAILURE, all_written
-    return view.status, all_written
+        return FAILURE
+    return view.status
 
 
 def main(arguments):
@@ -40,4 +40,4 @@ def main(arguments):
     )
     parser.add_argument("trace", nargs="?", default="-", help="a file with the trace; none or - is standard input")
     source = Input(parser.parse_args(arguments).trace)
-    return show(source.read)[0]
+    return show(source.read)
