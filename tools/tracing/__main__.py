@@ -7,7 +7,7 @@ import sys
 
 sys.path.insert(0, os.path.dirname(os.path.dirname(os.path.realpath(__file__))))
 
-from tracing.streams import Unusable, complain, discard
+from tracing.streams import Unusable, complain, discard, written
 
 
 def run(command, arguments):
@@ -16,7 +16,7 @@ def run(command, arguments):
     try:
         return command.main(arguments)
     finally:
-        sys.stdout.flush()
+        written(sys.stdout.flush)
 
 
 def main(name, arguments):

@@ -10,7 +10,7 @@ from .registers import REGISTERS
 SELECTS_PAGE = 0xFF
 PAGE_0 = (0,)
 
-# The registers whose writes are followed; with the address the page moves.
+# The registers whose writes are followed; with the address the page may move.
 SELECTION, MOVE = f"{SELECTS_PAGE:02X}", f"{REGISTERS['I2C_SLAVE_DEVICE_ADDRESS']:02X}"
 
 
@@ -51,12 +51,10 @@ class Pages:
         if written[:2] == SELECTION:
             selected = (int(value, 16),)
             self.put(address, union(before, selected) if failed else selected)
-        elif failed:
-            self.put(value, union(self.at(value), before))
         else:
-            # On another page than 0 this is another register, and the sensor keeps its address.
-            self.put(address, union(before, PAGE_0))
-            self.put(value, before)
+            # Also where it has not failed the sensor may have either address: on another page than 0 this is another
+            # register. And another sensor may have the new address already.
+            self.put(value, union(self.at(value), before))
 
     def put(self, address, pages):
         if pages == PAGE_0:

@@ -8,7 +8,8 @@ Reads of a wait stand once, with their count. `!!` marks what failed or was refu
 also reads bytes and ignores them; these are not shown.
 
 A call that fails leaves the sensor on the page that it has selected, since lib.rs returns at once. Until a call
-selects a page again, `(page 1?)` stands at its transfers, and `?` after names that hold on page 0.
+selects a page again, `(page 1?)` stands at its transfers, and `?` after names that hold on page 0. Each sensor is taken
+to be on page 0 where the trace begins, and a page that was selected by hand is in no trace.
 
 Exit status: 0; 1 if some lines fit no call, or if an answer tells another number of transfers than there are; 2 if a
 line is no line of a trace, or if something cannot be read or written.
@@ -24,12 +25,13 @@ FAILURE = 2
 
 
 def show(read):
-    """Shows what there is to read as a trace; gives the exit status, and whether all was written."""
+    """Shows what there is to read as a trace; gives the exit status."""
     view = View(sys.stdout)
-    all_written = written(lambda: show_trace(read, view))
+    written(lambda: show_trace(read, view))
     if view.complaint:
         complain("showtrace", view.complaint)
-    return view.status, all_written
+        return FAILURE
+    return view.status
 
 
 def main(arguments):
@@ -38,4 +40,4 @@ def main(arguments):
     )
     parser.add_argument("trace", nargs="?", default="-", help="a file with the trace; none or - is standard input")
     source = Input(parser.parse_args(arguments).trace)
-    return show(source.read)[0]
+    return show(source.read)

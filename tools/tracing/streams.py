@@ -14,7 +14,7 @@ def trying_to(do):
     try:
         yield
     except OSError as error:
-        raise Unusable(f"cannot {do}: {error.strerror}") from None
+        raise Unusable(f"cannot {do}: {error.strerror or error}") from None
 
 
 class Input:
@@ -38,15 +38,12 @@ class Input:
 
 
 def written(work):
-    """Does work that writes, and tells whether all was written. That nobody reads on, as in `showtrace | head`, is no
-    failure."""
+    """Does work that writes. That nobody reads on, as in `showtrace | head`, is no failure."""
     try:
         work()
         sys.stdout.flush()
-        return True
     except BrokenPipeError:
         discard(sys.stdout)
-        return False
 
 
 def discard(stream):

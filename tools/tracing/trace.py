@@ -54,34 +54,35 @@ def as_program(file):
 @contextmanager
 def started(file):
     """The program, with pipes to and from it. It ends when this does."""
-    with as_program(file) as program:
-        with trying_to(f"run {file}"):
-            process = subprocess.Popen([program], stdin=subprocess.PIPE, stdout=subprocess.PIPE, bufsize=0)
-        try:
-            yield process
-        finally:
-            process.kill()
-            process.wait()
+    # A copy is gone as soon as it runs, so that none is left where a signal ends this command.
+    with as_program(file) as program, trying_to(f"run {file}"):
+        process = subprocess.Popen([program], stdin=subprocess.PIPE, stdout=subprocess.PIPE, bufsize=0)
+    try:
+        yield process
+    finally:
+        process.kill()
+        process.wait()
 
 
-def copy_lines(read):
-    """The exit status, and whether all was written."""
+def show_plain(read):
+    """Shows the lines as they are; gives the exit status."""
 
     def copy():
         while lines := read():
             sys.stdout.buffer.write(lines)
             sys.stdout.buffer.flush()
 
-    return 0, written(copy)
+    written(copy)
+    return 0
 
 
 def trace(source, file, plain):
     with started(file) as process:
         feeding, lines = Feeding(source, process.stdin), Lines(process.stdout)
         feeding.start()
-        status, all_written = (copy_lines if plain else show)(lines.read)
+        status = show_plain(lines.read) if plain else show(lines.read)
         # Nobody reads on, or showtrace has met a line that is none: more is not looked at.
-        if not all_written or not lines.ended:
+        if not lines.ended:
             return status
         lost = what_was_lost(feeding, lines, process.wait())
     if lost:

@@ -17,7 +17,7 @@ class View:
 
     def __init__(self, out):
         self.out = out
-        self.status = 0
+        self.status = 0  # the exit status, unless there is a complaint
         self.complaint = None  # about the line that broke the trace off
         self.pages = Pages()
         self.forget()
@@ -140,7 +140,7 @@ def show_trace(read, view):
                 view.take(line_number, line, fields)
             view.out.flush()
     except NoTrace as complaint:
-        view.complaint, view.status = complaint, 2
+        view.complaint = complaint
         view.end(FAILED, f"broken off by line {complaint.line_number}")
     else:
         view.end(PLAIN, "still waiting")
