@@ -191,7 +191,12 @@ static uint8_t failure(struct simulator *sensor, uint8_t address, bool *made)
         sensor->good_transfers--;
     }
     if (sensor->fails_one_in != 0 && below(sensor, sensor->fails_one_in) == 0) {
-        return (uint8_t)(1 + below(sensor, SIMULATOR_LAST_CODE));
+        /* The simulator in Rust has codes up to 255, and the same numbers. */
+        uint8_t code = (uint8_t)(1 + below(sensor, 255));
+        if (code > SIMULATOR_LAST_CODE) {
+            return SIMULATOR_LAST_CODE;
+        }
+        return code;
     }
     *made = address == sensor->address;
     return *made ? 0 : SIMULATOR_NOBODY_ANSWERS;
