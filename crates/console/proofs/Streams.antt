@@ -14,8 +14,8 @@ use Rattle.reactions.specs.declared.Outcome.{Outcome}
 use Rattle.blocks.specs.Blocks.{lines_of, session_past}
 use Rattle.blocks.specs.Input.{after_lines, text_from}
 use Rattle.blocks.specs.Laws.{whole_part}
-use Rattle.blocks.proofs.Laws.{records_join, blocks_join, part_whole, part_records}
-use Rattle.console.specs.Failures.{IsRead, IsWrite, OnRead}
+use Rattle.blocks.proofs.Laws.{blocks_join, part_whole, part_records}
+use Rattle.console.specs.Failures.{IsWrite, OnRead}
 use Rattle.console.specs.Streams.{Writes, Told, After}
 
 -- one write more, from k on

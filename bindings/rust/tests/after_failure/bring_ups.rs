@@ -1,6 +1,6 @@
 //! Does the next bring-up come up?
 
-use crate::rig::{Rig, AFTER, BEFORE, SINGLE};
+use crate::rig::{Rig, BEFORE};
 use crate::{Count, Table, SEEDS};
 use vl53l0x_session::{Answer, Call};
 
@@ -21,9 +21,7 @@ pub fn the_next_bring_up(table: &mut Table) {
                 let mut rig = rig.selected();
                 selected.add(rig.call(Call::NEW) == Answer::Done(0));
                 same.add(rig.registers() == whole);
-                for rig in rig.at_once_and_later() {
-                    right.add(rig.moved(AFTER).gives(SINGLE, AFTER));
-                }
+                right.add_all(rig.at_once_and_later().map(Rig::reads_right));
             }
         }
     }

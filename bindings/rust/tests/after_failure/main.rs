@@ -29,6 +29,10 @@ impl Count {
         self.so += u32::from(so);
         self.of += 1;
     }
+
+    fn add_all(&mut self, so: impl IntoIterator<Item = bool>) {
+        so.into_iter().for_each(|so| self.add(so));
+    }
 }
 
 /// The figures, with what they are of.

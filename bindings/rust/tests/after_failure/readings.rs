@@ -30,14 +30,10 @@ struct Ways {
 impl Ways {
     fn add(&mut self, rig: &Rig) {
         let thrown_away = rig.clone().moved(MEANWHILE).after(SINGLE);
-        self.thrown_away.add(thrown_away.clone().moved(AFTER).gives(SINGLE, AFTER));
-        self.lagging.add(thrown_away.paused().moved(AFTER).gives(SINGLE, AFTER));
-        for rig in rig.clone().thrown_away_and_cleared().at_once_and_later() {
-            self.cleared.add(rig.moved(AFTER).gives(SINGLE, AFTER));
-        }
-        for rig in rig.clone().recovered().at_once_and_later() {
-            self.recovered.add(rig.moved(AFTER).gives(SINGLE, AFTER));
-        }
+        self.thrown_away.add(thrown_away.clone().reads_right());
+        self.lagging.add(thrown_away.paused().reads_right());
+        self.cleared.add_all(rig.clone().thrown_away_and_cleared().at_once_and_later().map(Rig::reads_right));
+        self.recovered.add_all(rig.clone().recovered().at_once_and_later().map(Rig::reads_right));
     }
 
     fn show(&self, table: &mut Table) {
@@ -103,7 +99,7 @@ pub fn the_recipe_breaks(table: &mut Table) {
             let last = first.clone().after(SINGLE).paused();
             for (rig, call) in [(first, SINGLE), (last, Call::ClearInterruptStatus)] {
                 for rig in rig.broken(call).flat_map(|(rig, _)| rig.at_once_and_later()) {
-                    right.add(rig.recovered().moved(AFTER).gives(SINGLE, AFTER));
+                    right.add(rig.recovered().reads_right());
                 }
             }
         }
@@ -123,7 +119,7 @@ pub fn after_other_calls(table: &mut Table) {
             for (mut rig, _) in up.broken(call) {
                 done.add(rig.call(call) == answer);
                 same.add(rig.registers() == whole.registers());
-                right.add(rig.moved(AFTER).gives(SINGLE, AFTER));
+                right.add(rig.reads_right());
             }
         }
     }
@@ -141,7 +137,7 @@ pub fn after_a_timeout(table: &mut Table) {
         assert_eq!(rig.call(SINGLE), Answer::Timeout);
         let rig = rig.paused();
         again.add(rig.clone().moved(AFTER).gives(SINGLE, BEFORE));
-        recovered.add(rig.recovered().moved(AFTER).gives(SINGLE, AFTER));
+        recovered.add(rig.recovered().reads_right());
     }
     table.title("call 8 ended in Timeout; the measurement ends; the roll moves; call 8 again");
     table.always("Done with the old reading", again);
@@ -186,9 +182,7 @@ pub fn started_or_stopped(table: &mut Table) {
                 by_single.add(rig.clone().call(SINGLE) == Answer::Timeout);
                 let rig = rig.selected().after(Call::StopContinuous);
                 in_recipe.add(rig.clone().call(SINGLE) == Answer::Timeout);
-                for rig in rig.thrown_away_and_cleared().at_once_and_later() {
-                    stopped.add(rig.moved(AFTER).gives(SINGLE, AFTER));
-                }
+                stopped.add_all(rig.thrown_away_and_cleared().at_once_and_later().map(Rig::reads_right));
             }
         }
     }

@@ -14,10 +14,8 @@ pub fn a_reading_goes_on(table: &mut Table) {
             let mut rig = rig.moved(MEANWHILE);
             old.add(rig.go_on() == Answer::Done(BEFORE.into()));
             let rig = rig.paused();
-            next.add(rig.clone().moved(AFTER).gives(SINGLE, AFTER));
-            for rig in rig.recovered().at_once_and_later() {
-                recovered.add(rig.moved(AFTER).gives(SINGLE, AFTER));
-            }
+            next.add(rig.clone().reads_right());
+            recovered.add_all(rig.recovered().at_once_and_later().map(Rig::reads_right));
         }
     }
     table.title(
@@ -50,9 +48,7 @@ pub fn the_session_is_lost(table: &mut Table) {
                 rig = rig.selected();
                 second.add(rig.call(Call::NEW) == Answer::Done(0));
             }
-            for rig in rig.at_once_and_later() {
-                right.add(rig.moved(AFTER).gives(SINGLE, AFTER));
-            }
+            right.add_all(rig.at_once_and_later().map(Rig::reads_right));
         }
     }
     table.title("call 1 or 4 to 8 left so; the session is lost; page 0 by hand, and a bring-up in a fresh session");

@@ -132,6 +132,11 @@ impl Rig {
         [self.clone(), self.paused()]
     }
 
+    /// The roll moves, and a single reading is made: whether that is right.
+    pub fn reads_right(self) -> bool {
+        self.moved(AFTER).gives(SINGLE, AFTER)
+    }
+
     /// Page 0 is selected by hand, or nobody answers: after call 3 the sensor may be at another address.
     pub fn selected(mut self) -> Self {
         let mut bus = |address: u8, write: &[u8], read: &mut [u8]| self.sensor.transfer(address, write, read);
