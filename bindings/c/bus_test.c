@@ -116,13 +116,29 @@ static void with_plain_writes(const struct state *start, const uint8_t *call, co
     CHECK(plain.line.records == 0 && same_end(&plain, end));
 }
 
+/* The table has each call of the library once: a record with any other code is none. */
+static void all_codes(void)
+{
+    int rows[256] = {0};
+    for (size_t i = 0; i < ALL_CALLS; i++) {
+        rows[all_calls[i].code]++;
+    }
+    for (unsigned code = 0; code <= 255; code++) {
+        uint8_t session[VL53L0X_SESSION_SIZE], record[VL53L0X_RECORD_SIZE], outcome[VL53L0X_OUTCOME_SIZE];
+        vl53l0x_fresh(session, sizeof session);
+        vl53l0x_put_call(record, (uint8_t)code, 0, 0);
+        vl53l0x_step(session, sizeof session, record, sizeof record, outcome, sizeof outcome);
+        CHECK(rows[code] == (outcome[0] != VL53L0X_ILL_FORMED_RECORD));
+    }
+}
+
 static void calls(void)
 {
     static struct state start, end;
     uint32_t reads_at_writes = 0;
-    for (uint8_t code = VL53L0X_WITH_ADDRESS; code <= VL53L0X_GET_MEASUREMENT_TIMING_BUDGET; code++) {
+    for (size_t i = 0; i < ALL_CALLS; i++) {
         uint8_t call[VL53L0X_RECORD_SIZE];
-        a_call(&start, call, code);
+        a_call(&start, call, all_calls[i].code);
         driven(&start, call, &end);
         by_hand(&start, call, &end);
         with_plain_writes(&start, call, &end);
@@ -190,6 +206,7 @@ static void recorded_before(void)
 
 int main(void)
 {
+    all_codes();
     calls();
     never_ready();
     nothing_waits();

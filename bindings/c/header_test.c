@@ -28,11 +28,14 @@ static void records(void)
 
 static void outcomes(void)
 {
-    static const uint8_t transfer[] = {16, 0x29, 3, 0x71, 0x02, 0x92, 0, 0, 0, 0, 1};
-    static const uint8_t answer[] = {0, 0x78, 0x56, 0x34, 0x12, 0xB8, 0x4E, 1, 0, 0, 0};
+    static const uint8_t transfer[] = {255, 0x29, 3, 0x71, 0x02, 0x92, 0, 0, 0, 0, 1, 0, 0,
+                                       0,   0,    0, 0,    0,    0,    0, 0, 0, 0, 0, 0};
+    static const uint8_t answer[] = {0, 0x78, 0x56, 0x34, 0x12, 0, 0, 0, 0, 0,    0,    0, 0,
+                                     0, 0,    0,    0,    0,    0, 0, 0, 0xB8, 0x4E, 1, 0};
 
-    CHECK(sizeof transfer == VL53L0X_OUTCOME_SIZE);
-    CHECK(VL53L0X_OUTCOME_SIZE == 3 + VL53L0X_MOST_WRITTEN + 1);
+    CHECK(sizeof transfer == VL53L0X_OUTCOME_SIZE && sizeof answer == VL53L0X_OUTCOME_SIZE);
+    CHECK(transfer[0] == VL53L0X_TRANSFER && answer[0] == VL53L0X_DONE);
+    CHECK(VL53L0X_OUTCOME_SIZE == 1 + 4 * VL53L0X_MOST_VALUES + 4);
     CHECK(vl53l0x_transfer_address(transfer) == 0x29);
     CHECK(vl53l0x_transfer_count(transfer) == 3);
     CHECK(vl53l0x_transfer_written(transfer) == transfer + 3);
@@ -59,7 +62,7 @@ static void sessions(void)
     CHECK(vl53l0x_session_idle(session) == 0x1211100F);
     CHECK(vl53l0x_session_transfers(session) == 0x16151413);
     CHECK(vl53l0x_session_failed(session) == 23);
-    CHECK(vl53l0x_session_own(session) == 0x1B1A1918);
+    CHECK(vl53l0x_session_found_budget(session) == 0x1B1A1918);
     CHECK(vl53l0x_session_carried(session) == session + 28);
 }
 
@@ -67,8 +70,9 @@ static void sessions(void)
 static void done_values(void)
 {
     for (unsigned number = 0; number <= 255; number++) {
-        const uint8_t outcome[VL53L0X_OUTCOME_SIZE] = {(uint8_t)number, 0x78, 0x56, 0x34, 0x12, 17, 0, 0, 0, 0, 0};
+        uint8_t outcome[VL53L0X_OUTCOME_SIZE] = {(uint8_t)number, 0x78, 0x56, 0x34, 0x12};
         uint32_t value = 505;
+        outcome[21] = 17;
         if (number == VL53L0X_DONE) {
             CHECK(vl53l0x_done_value(outcome, &value) == 1 && value == 0x12345678);
         } else {
@@ -132,7 +136,7 @@ static void numbers(void)
     CHECK(vl53l0x_session_transfers(session) == 1);
     CHECK(vl53l0x_outstanding(session, sizeof session, outcome, sizeof outcome) == VL53L0X_TRANSFER);
     CHECK(vl53l0x_transfer_address(outcome) == 0x29);
-    CHECK(vl53l0x_outstanding(session, sizeof session, outcome, sizeof outcome - 1) == VL53L0X_NO_OUTCOME);
+    CHECK(vl53l0x_outstanding(session, sizeof session, outcome, sizeof outcome - 1) == VL53L0X_NOT_PUT);
     CHECK(begin(session, VL53L0X_WHO_AM_I, 0, 0) == VL53L0X_CALL_WAITS);
     CHECK(reply(session, 1, 2) == VL53L0X_STRAY_BYTE);
     CHECK(fail(session, 0) == VL53L0X_ILL_FORMED_RECORD);
@@ -142,7 +146,7 @@ static void numbers(void)
     CHECK(vl53l0x_step(session, sizeof session - 1, record, sizeof record, outcome, sizeof outcome) ==
           VL53L0X_ILL_FORMED_SESSION);
     CHECK(vl53l0x_step(session, sizeof session, record, sizeof record, outcome, sizeof outcome + 1) ==
-          VL53L0X_NO_OUTCOME);
+          VL53L0X_NOT_PUT);
     CHECK(reply(session, 0xED, 1) == VL53L0X_INVALID_DEVICE);
     CHECK(begin(session, VL53L0X_WITH_ADDRESS, VL53L0X_DEFAULT_ADDRESS, 0) == VL53L0X_TRANSFER);
     CHECK(fail(session, 7) == VL53L0X_BUS_ERROR);
@@ -305,17 +309,17 @@ static void bytes_put_away(void)
     }
 }
 
+/* Each number of the library has words of its own, and no other number has any. */
 static void texts(void)
 {
-    for (unsigned i = 0; i <= VL53L0X_NO_OUTCOME; i++) {
+    for (unsigned i = 0; i <= 255; i++) {
         const char *text = vl53l0x_answer_text((uint8_t)i);
+        int is_number = i <= VL53L0X_ILL_FORMED_SESSION || i == VL53L0X_NOT_PUT || i == VL53L0X_TRANSFER;
         CHECK(text[0] != 0);
-        for (unsigned k = i + 1; k <= 255; k++) {
+        CHECK((strcmp(text, "no number of the library") != 0) == is_number);
+        for (unsigned k = i + 1; is_number && k <= 255; k++) {
             CHECK(strcmp(text, vl53l0x_answer_text((uint8_t)k)) != 0);
         }
-    }
-    for (unsigned k = VL53L0X_NO_OUTCOME + 1; k <= 255; k++) {
-        CHECK(strcmp(vl53l0x_answer_text((uint8_t)k), "no number of the library") == 0);
     }
 }
 

@@ -11,6 +11,32 @@ struct state {
     struct line line;
 };
 
+/*
+ * A call of each code, with arguments with which it can be Done. Whatever goes over all codes goes over these, and
+ * bus_test.c holds them against the library.
+ */
+static const struct {
+    uint8_t code;
+    uint32_t a;
+    uint16_t b;
+} all_calls[] = {{VL53L0X_WITH_ADDRESS, 0x29, 0},
+                 {VL53L0X_WHO_AM_I, 0, 0},
+                 {VL53L0X_SET_ADDRESS, 0x30, 0},
+                 {VL53L0X_START_CONTINUOUS, 50, 0},
+                 {VL53L0X_STOP_CONTINUOUS, 0, 0},
+                 {VL53L0X_READ_RANGE_MM, 0, 0},
+                 {VL53L0X_READ_RANGE_CONTINUOUS_MILLIMETERS_BLOCKING, 0, 0},
+                 {VL53L0X_READ_RANGE_SINGLE_MILLIMETERS_BLOCKING, 0, 0},
+                 {VL53L0X_SET_MEASUREMENT_TIMING_BUDGET, 33000, 0},
+                 {VL53L0X_SET_INTERRUPT_THRESHOLDS_MM, 100, 300},
+                 {VL53L0X_GET_INTERRUPT_THRESHOLDS_MM, 0, 0},
+                 {VL53L0X_SET_GPIO_CONFIG, VL53L0X_OUT_OF_WINDOW, VL53L0X_ACTIVE_HIGH},
+                 {VL53L0X_CLEAR_INTERRUPT_STATUS, 0, 0},
+                 {VL53L0X_SET_SIGNAL_RATE_LIMIT, 0x3E800000, 0},
+                 {VL53L0X_GET_MEASUREMENT_TIMING_BUDGET, 0, 0}};
+
+enum { ALL_CALLS = sizeof all_calls / sizeof *all_calls };
+
 static inline int same_session(const struct state *one, const struct state *other)
 {
     return memcmp(one->session, other->session, VL53L0X_SESSION_SIZE) == 0;
@@ -53,11 +79,6 @@ static inline uint8_t drive(struct state *state, const uint8_t *call)
 /* A call that is Done from a state in which it can be: not up, at rest, or measuring with a reading ready at once. */
 static inline void a_call(struct state *state, uint8_t *record, uint8_t code)
 {
-    static const struct {
-        uint32_t a;
-        uint16_t b;
-    } arguments[] = {{0, 0}, {0x29, 0},  {0, 0},     {0x30, 0}, {50, 0}, {0, 0}, {0, 0},          {0, 0},
-                     {0, 0}, {33000, 0}, {100, 300}, {0, 0},    {3, 1},  {0, 0}, {0x3E800000, 0}, {0, 0}};
     memset(state, 0, sizeof *state);
     simulator_power_up(&state->line.sensor, code);
     simulator_set_distance(&state->line.sensor, 511);
@@ -71,7 +92,11 @@ static inline void a_call(struct state *state, uint8_t *record, uint8_t code)
         vl53l0x_put_call(record, VL53L0X_START_CONTINUOUS, 50, 0);
         CHECK(drive(state, record) == VL53L0X_DONE);
     }
-    vl53l0x_put_call(record, code, arguments[code].a, arguments[code].b);
+    for (size_t i = 0; i < ALL_CALLS; i++) {
+        if (all_calls[i].code == code) {
+            vl53l0x_put_call(record, code, all_calls[i].a, all_calls[i].b);
+        }
+    }
 }
 
 #endif

@@ -6,7 +6,7 @@
 
 #include <limits.h>
 
-/* What is returned and is no code. Each of them is VL53L0X_OTHER_FAILURE. */
+/* What is returned and is no code. Each of them is VL53L0X_FAILURE_OTHER. */
 static const int no_codes[] = {INT_MIN, -300, -256, -255, -254, -2, -1, 254, 255, 256, 0x103, 511, 512, 65537, INT_MAX};
 
 enum { NO_CODES = sizeof no_codes / sizeof *no_codes, CODES = 253 };
@@ -52,9 +52,9 @@ static void odd_ends(const struct state *waiting, bool plain)
         65536 + right, SIZE_MAX - 1};
     for (size_t i = 0; i < sizeof tolds / sizeof *tolds; i++) {
         bool good = (tolds[i] == UNTOUCHED ? 0 : tolds[i]) == right;
-        ends_so(waiting, plain, 0, tolds[i], good ? VL53L0X_DONE : VL53L0X_BUS_ERROR, VL53L0X_SHORT_READ);
+        ends_so(waiting, plain, 0, tolds[i], good ? VL53L0X_DONE : VL53L0X_BUS_ERROR, VL53L0X_FAILURE_SHORT_READ);
         for (size_t k = 0; k < NO_CODES; k++) {
-            ends_so(waiting, plain, no_codes[k], tolds[i], VL53L0X_BUS_ERROR, VL53L0X_OTHER_FAILURE);
+            ends_so(waiting, plain, no_codes[k], tolds[i], VL53L0X_BUS_ERROR, VL53L0X_FAILURE_OTHER);
         }
     }
     for (int code = 1; code <= CODES; code++) {
@@ -121,15 +121,19 @@ static uint32_t breaks(const struct state *start, const uint8_t *call, vl53l0x_t
 static void ranges(void)
 {
     static struct state start, end;
-    for (uint8_t code = VL53L0X_READ_RANGE_MM; code <= VL53L0X_READ_RANGE_SINGLE_MILLIMETERS_BLOCKING; code++) {
+    for (size_t i = 0; i < ALL_CALLS; i++) {
         uint8_t call[VL53L0X_RECORD_SIZE];
         uint32_t distance = 0;
-        a_call(&start, call, code);
+        if (!is_reading(all_calls[i].code)) {
+            continue;
+        }
+        a_call(&start, call, all_calls[i].code);
         end = start;
         CHECK(drive(&end, call) == VL53L0X_DONE);
         CHECK(vl53l0x_done_value(end.outcome, &distance) && distance == 511);
-        CHECK(breaks(&start, call, short_at_range, VL53L0X_SHORT_READ) == vl53l0x_answer_transfers(end.outcome));
-        CHECK(breaks(&start, call, busy_at_range, HAL_BUSY) == vl53l0x_answer_transfers(end.outcome));
+        const uint32_t last = vl53l0x_answer_transfers(end.outcome);
+        CHECK(breaks(&start, call, short_at_range, VL53L0X_FAILURE_SHORT_READ) == last);
+        CHECK(breaks(&start, call, busy_at_range, HAL_BUSY) == last);
     }
 }
 
@@ -137,11 +141,11 @@ static void ranges(void)
 static void untold(void)
 {
     static struct state start;
-    for (uint8_t code = VL53L0X_WITH_ADDRESS; code <= VL53L0X_GET_MEASUREMENT_TIMING_BUDGET; code++) {
+    for (size_t i = 0; i < ALL_CALLS; i++) {
         uint8_t call[VL53L0X_RECORD_SIZE];
-        a_call(&start, call, code);
-        if (code != VL53L0X_SET_ADDRESS) {
-            CHECK(breaks(&start, call, forgetful, VL53L0X_SHORT_READ) == 1);
+        a_call(&start, call, all_calls[i].code);
+        if (all_calls[i].code != VL53L0X_SET_ADDRESS) {
+            CHECK(breaks(&start, call, forgetful, VL53L0X_FAILURE_SHORT_READ) == 1);
         }
     }
 }
@@ -192,11 +196,11 @@ static void page_0(void)
     CHECK(vl53l0x_select_page_0(&bus, 0x29) == 0);
     for (size_t i = 0; i < sizeof tolds / sizeof *tolds; i++) {
         bus = odd_bus(&state.line, 0, tolds[i]);
-        CHECK(vl53l0x_select_page_0(&bus, 0x29) == VL53L0X_SHORT_READ);
+        CHECK(vl53l0x_select_page_0(&bus, 0x29) == VL53L0X_FAILURE_SHORT_READ);
     }
     for (size_t i = 0; i < NO_CODES; i++) {
         bus = odd_bus(&state.line, no_codes[i], 0);
-        CHECK(vl53l0x_select_page_0(&bus, 0x29) == VL53L0X_OTHER_FAILURE);
+        CHECK(vl53l0x_select_page_0(&bus, 0x29) == VL53L0X_FAILURE_OTHER);
     }
     for (int code = 1; code <= CODES; code++) {
         bus = odd_bus(&state.line, code, UNTOUCHED);
@@ -206,8 +210,8 @@ static void page_0(void)
 
 int main(void)
 {
-    for (uint8_t code = VL53L0X_WITH_ADDRESS; code <= VL53L0X_GET_MEASUREMENT_TIMING_BUDGET; code++) {
-        each_transfer(code);
+    for (size_t i = 0; i < ALL_CALLS; i++) {
+        each_transfer(all_calls[i].code);
     }
     ranges();
     untold();

@@ -40,9 +40,10 @@ extern "C" {
 enum {
     VL53L0X_SESSION_SIZE = 52,
     VL53L0X_RECORD_SIZE = 8,
-    VL53L0X_OUTCOME_SIZE = 11,
+    VL53L0X_OUTCOME_SIZE = 25,
     VL53L0X_MOST_WRITTEN = 7, /* bytes that a transfer writes at most */
     VL53L0X_MOST_READ = 6,    /* bytes that a transfer reads at most */
+    VL53L0X_MOST_VALUES = 5,  /* values that an outcome has room for; today an answer has one */
     VL53L0X_DEFAULT_ADDRESS = 0x29 /* where a sensor answers after power-up */
 };
 
@@ -108,9 +109,9 @@ enum {
     VL53L0X_ILL_FORMED_RECORD = 13,  /* no call and no reply, or arguments out of range */
     VL53L0X_SPARE_BYTES = 14,        /* the record is not 8 bytes long */
     VL53L0X_ILL_FORMED_SESSION = 15, /* no session, or one that says that a call waits and is none that waits in it */
-    /* No answer. */
-    VL53L0X_TRANSFER = 16,  /* a transfer is to be made */
-    VL53L0X_NO_OUTCOME = 17 /* only returned: the outcome is not 11 bytes long, and nothing was changed */
+    /* No answer. Failure codes of a bus may be the same numbers, and never stand in byte 0 of an outcome. */
+    VL53L0X_NOT_PUT = 254, /* only returned: the outcome is not 25 bytes long, and nothing was changed */
+    VL53L0X_TRANSFER = 255 /* a transfer is to be made */
 };
 
 /*
@@ -123,7 +124,7 @@ uint8_t vl53l0x_fresh(uint8_t *session, size_t session_len);
  * Hands a record to a session. Writes the session that it leads to and the outcome, and returns byte 0 of the outcome.
  * If the record is not 8 bytes long the outcome is VL53L0X_SPARE_BYTES. If the session is not 52 bytes long, or its
  * byte 0 is above 1, it is none, and the outcome is VL53L0X_ILL_FORMED_SESSION. In both cases the session is as it was.
- * If the outcome is not 11 bytes long: changes nothing and returns VL53L0X_NO_OUTCOME.
+ * If the outcome is not 25 bytes long: changes nothing and returns VL53L0X_NOT_PUT.
  */
 uint8_t vl53l0x_step(uint8_t *session, size_t session_len, const uint8_t *record, size_t record_len, uint8_t *outcome,
                      size_t outcome_len);
@@ -131,7 +132,7 @@ uint8_t vl53l0x_step(uint8_t *session, size_t session_len, const uint8_t *record
 /*
  * Writes the transfer that a waiting session has out, and returns VL53L0X_TRANSFER. The outcome, and what is returned,
  * is VL53L0X_NO_CALL_WAITS where no call waits, VL53L0X_ILL_FORMED_SESSION as with vl53l0x_step.
- * If the outcome is not 11 bytes long: changes nothing and returns VL53L0X_NO_OUTCOME.
+ * If the outcome is not 25 bytes long: changes nothing and returns VL53L0X_NOT_PUT.
  */
 uint8_t vl53l0x_outstanding(const uint8_t *session, size_t session_len, uint8_t *outcome, size_t outcome_len);
 
@@ -245,16 +246,16 @@ static inline void vl53l0x_put_reply_to(uint8_t *record, const uint8_t *outcome,
 
 /* An outcome that is an answer: byte 0 is 0 to 15. */
 
-/* What it is depends on the answer: a distance is taken by vl53l0x_done_value. */
+/* The first value. What it is depends on the answer: a distance is taken by vl53l0x_done_value. */
 static inline uint32_t vl53l0x_answer_value(const uint8_t *outcome)
 {
     return vl53l0x_get_low_first_32(outcome + 1);
 }
 
-/* The transfers that the call made; 0 for a refusal. */
+/* The transfers that the call made; 0 for a refusal. They stand after the room for all values. */
 static inline uint32_t vl53l0x_answer_transfers(const uint8_t *outcome)
 {
-    return vl53l0x_get_low_first_32(outcome + 5);
+    return vl53l0x_get_low_first_32(outcome + 1 + 4 * VL53L0X_MOST_VALUES);
 }
 
 /*
@@ -290,9 +291,13 @@ static inline const char *vl53l0x_answer_text(uint8_t number)
         "refused: the record is no call and no reply, or has arguments out of range",
         "refused: the record is not 8 bytes long",
         "refused: the session is none, or says that a call waits and is none that waits in it",
-        "a transfer is to be made",
-        "the outcome is not 11 bytes long",
     };
+    if (number == VL53L0X_TRANSFER) {
+        return "a transfer is to be made";
+    }
+    if (number == VL53L0X_NOT_PUT) {
+        return "the outcome is not 25 bytes long";
+    }
     return number < sizeof texts / sizeof *texts ? texts[number] : "no number of the library";
 }
 
@@ -376,7 +381,7 @@ static inline uint8_t vl53l0x_session_failed(const uint8_t *session)
 }
 
 /* The budget that a bring-up has read, in microseconds. */
-static inline uint32_t vl53l0x_session_own(const uint8_t *session)
+static inline uint32_t vl53l0x_session_found_budget(const uint8_t *session)
 {
     return vl53l0x_get_low_first_32(session + 24);
 }

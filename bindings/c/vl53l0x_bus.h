@@ -14,7 +14,7 @@
  *       if (vl53l0x_drive(session, &bus, record, outcome) == VL53L0X_DONE && vl53l0x_done_value(outcome, &range)) {
  *           ... range is the distance in millimetres
  *
- * Here sessions have 52 bytes, records 8 and outcomes 11. What vl53l0x.h says of memory and threads holds here too.
+ * Here sessions have 52 bytes, records 8 and outcomes 25. What vl53l0x.h says of memory and threads holds here too.
  *
  * After a failure. That is after any answer VL53L0X_BUS_ERROR or VL53L0X_TIMEOUT. The answers equal the Rust driver's,
  * also where a caller would not expect them: the session is right about what the driver knows, but what the sensor has
@@ -74,10 +74,13 @@
 extern "C" {
 #endif
 
-/* Failure codes of transfers. Those of a bus's own are 1 to 253. */
+/*
+ * Failure codes of transfers. Those of a bus's own are 1 to 253. A failure code stands in a record and is the value of
+ * VL53L0X_BUS_ERROR; it is no number of an outcome, where 254 and 255 are VL53L0X_NOT_PUT and VL53L0X_TRANSFER.
+ */
 enum {
-    VL53L0X_OTHER_FAILURE = 254, /* the bus returned a number that is no code: below 0 or above 253 */
-    VL53L0X_SHORT_READ = 255     /* the bus returned 0, but told another count of bytes than was asked for */
+    VL53L0X_FAILURE_OTHER = 254,     /* the bus returned a number that is no code: below 0 or above 253 */
+    VL53L0X_FAILURE_SHORT_READ = 255 /* the bus returned 0, but told another count of bytes than was asked for */
 };
 
 /*
@@ -111,11 +114,11 @@ static inline uint8_t vl53l0x_hand_in(uint8_t *session, const struct vl53l0x_bus
 /* The failure code of a transfer that was to read so many bytes, by what it returned and told; 0 if it is good. */
 static inline uint8_t vl53l0x_failure_code(int result, size_t reads, size_t got)
 {
-    if (result < 0 || result >= VL53L0X_OTHER_FAILURE) {
-        return VL53L0X_OTHER_FAILURE;
+    if (result < 0 || result >= VL53L0X_FAILURE_OTHER) {
+        return VL53L0X_FAILURE_OTHER;
     }
     if (result == 0 && got != reads) {
-        return VL53L0X_SHORT_READ;
+        return VL53L0X_FAILURE_SHORT_READ;
     }
     return (uint8_t)result;
 }
@@ -225,8 +228,8 @@ static inline struct vl53l0x_bus vl53l0x_with_plain_writes(struct vl53l0x_bus *i
 
 /*
  * Selects page 0 of a sensor's registers by one write alone, outside every session: only while no call waits on that
- * sensor. Returns 0, or the failure code that vl53l0x_make_transfer would report, 1 to 255. It is no record, and no
- * recorder sees it.
+ * sensor. Returns 0, or the failure code that vl53l0x_make_transfer would report, 1 to 255, which is no number of an
+ * outcome. It is no record, and no recorder sees it.
  */
 VL53L0X_MUST_CHECK static inline uint8_t vl53l0x_select_page_0(const struct vl53l0x_bus *bus, uint8_t address)
 {

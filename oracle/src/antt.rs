@@ -9,7 +9,7 @@ use vl53l0x::inner::Fields;
 /// A file of traces: its module's name, what it holds, and the name of the whole list.
 pub struct File {
     pub module: &'static str,
-    pub about: &'static str,
+    pub about: String,
     pub list: &'static str,
     pub traces: Vec<Trace>,
 }

@@ -46,6 +46,8 @@ pub fn get(replies: Replies) -> (Result<u32, Panic>, usize) {
 #[derive(Clone, Copy, Debug, PartialEq, Eq)]
 pub enum Set {
     Word(u16),
+    /// Below the least budget.
+    TooShort,
     NoTime,
     Panics(Panic),
 }
@@ -58,7 +60,6 @@ impl Set {
 
 /// What `set_measurement_timing_budget` does.
 pub fn set(replies: Replies, budget: u32) -> Set {
-    assert!(budget >= LEAST);
     let mut bus = sensor(replies);
     let answer = run(|| {
         let mut driver = driver(&mut bus, FRESH);
@@ -67,22 +68,29 @@ pub fn set(replies: Replies, budget: u32) -> Set {
     });
     let (reads, writes) = bus.transfers.split_at(bus.transfers.len().min(READS.len()));
     assert_reads(reads);
-    match (answer, reads.len(), writes) {
+    let set = match (answer, reads.len(), writes) {
         (Ok((true, stored)), 6, [write]) if stored == budget => Set::Word(write.word_at(0x71)),
+        (Ok((false, 0)), 0, []) => Set::TooShort,
         (Ok((false, 0)), 6, []) => Set::NoTime,
         (Err(panic), _, []) => Set::Panics(panic),
         (answer, _, writes) => panic!("{replies:02X?} {budget}: {answer:?} {writes:?}"),
-    }
+    };
+    assert_eq!(set == Set::TooShort, budget < LEAST);
+    set
 }
+
+/// Both are `N` in the list's lines.
+const TOO_SHORT: &str = "N before any transfer";
+const NO_TIME: &str = "N after the reads";
 
 pub fn list() -> List {
     let mut list = List::new("budget");
-    assert_refused_below_least();
     for case in cases() {
         record(&mut list, case);
     }
     list.must_panic_at(&[983, 663, 1029, 668, 1012, 1023, 799]);
-    list.must_reach("N");
+    list.must_reach(TOO_SHORT);
+    list.must_reach(NO_TIME);
     list.must_have("budget E8 0096 01FE 06 25 04 33000 31326 658 -");
     list
 }
@@ -92,26 +100,20 @@ fn record(list: &mut List, Case { replies, budget }: Case) {
     let answer = set(replies, budget);
     let (set_text, outcome) = match answer {
         Set::Word(word) => (word.to_string(), "word".to_string()),
-        Set::NoTime => ("N".to_string(), "N".to_string()),
+        Set::TooShort => ("N".to_string(), TOO_SHORT.to_string()),
+        Set::NoTime => ("N".to_string(), NO_TIME.to_string()),
         Set::Panics(panic) => (panic.to_string(), panic.outcome()),
     };
-    // The replies alone decide places 2 to 6, so both calls meet the same one.
+    // The replies alone decide places 2 to 6, so both calls meet the same one; but call 9 reads none for a budget that is
+    // too short.
     let by_replies = match answer {
         Set::Panics(panic) if panic.place <= 6 => Some(panic),
         _ => None,
     };
-    assert_eq!(number.err(), by_replies);
+    assert!(answer == Set::TooShort || number.err() == by_replies);
     let first = number.err().map_or("-".to_string(), |panic| format!("{replied}:{panic}"));
     let shown: Vec<String> = READS.map(|(_, bytes)| hex(&replies[bytes])).to_vec();
     let line = format!("budget {} {budget} {} {set_text} {first}", shown.join(" "), text(number));
     let case = [&replies[..], &budget.to_be_bytes()].concat();
     list.record(Kind::Budget, &case, &line, &[outcome, format!("first place {first}")]);
-}
-
-fn assert_refused_below_least() {
-    for budget in [0, 1, LEAST - 1] {
-        let mut bus = sensor([0xFF; 8]);
-        let answer = driver(&mut bus, FRESH).set_measurement_timing_budget(budget);
-        assert!(answer == Ok(false) && bus.transfers.is_empty());
-    }
 }

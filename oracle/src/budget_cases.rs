@@ -27,7 +27,7 @@ const BENCH_BUDGET: u32 = 33_000;
 pub fn cases() -> Vec<Case> {
     let mut numbers = Numbers::new(5);
     let random = (0..3000).map(|_| random_case(&mut numbers));
-    edges().into_iter().chain(random).collect()
+    edges().into_iter().chain(least_budgets()).chain(random).collect()
 }
 
 /// Both sides of every edge.
@@ -50,6 +50,21 @@ pub fn edges() -> Vec<Case> {
     let wide = replies(0xC0, 0x0FFF, 0x0FFF, 0, 0, 0);
     add(wide, 503_268); // place 9: 32767 clocks and pre's 32769
     add(wide, 753_890); // no place: 65631 clocks, cut to 95
+    cases
+}
+
+/// Budgets below the least one and on both sides of it, also where the replies have a place or leave time enough.
+fn least_budgets() -> Vec<Case> {
+    let mut numbers = Numbers::new(10);
+    let mut cases = Vec::new();
+    for replies in changes().into_iter().chain(timings()) {
+        for budget in [0, LEAST - 1, LEAST] {
+            cases.push(Case { replies, budget });
+        }
+    }
+    for _ in 0..200 {
+        cases.push(Case { replies: random_replies(&mut numbers), budget: numbers.below(LEAST) });
+    }
     cases
 }
 

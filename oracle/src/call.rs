@@ -1,4 +1,4 @@
-//! The fifteen calls, as records (SCOPE 7.1) and as calls of the Rust.
+//! The calls, as records (SCOPE 7.1) and as calls of the Rust.
 
 use crate::bus::ADDRESS;
 use crate::place::run;
@@ -29,8 +29,8 @@ pub enum Call {
     GetBudget,
 }
 
-/// A call of each code, in order.
-pub const CALLS: [Call; 15] = [
+/// A call of each code, in order, from 1 on.
+const LIST: &[Call] = &[
     Call::WithAddress(ADDRESS),
     Call::WhoAmI,
     Call::SetAddress(0x30),
@@ -47,6 +47,10 @@ pub const CALLS: [Call; 15] = [
     Call::SetSignalRateLimit(0x3E80_0000),
     Call::GetBudget,
 ];
+
+/// The same as an array, with as many as the list has.
+pub const CALLS: [Call; LIST.len()] = *LIST.first_chunk().unwrap();
+pub const LAST_CODE: u8 = LIST.len() as u8;
 
 /// Each at its number in SCOPE 5.10.
 pub const FUNCTIONALITIES: [GpioFunctionality; 4] = [

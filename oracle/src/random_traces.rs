@@ -1,6 +1,6 @@
 //! Pseudo-random runs.
 
-use crate::call::{Call, FUNCTIONALITIES, POLARITIES};
+use crate::call::{Call, CALLS, FUNCTIONALITIES, POLARITIES};
 use crate::numbers::Numbers;
 use crate::traces::Trace;
 use vl53l0x::inner::Fields;
@@ -22,23 +22,21 @@ fn reply(numbers: &mut Numbers, written: &[u8], read: &mut [u8]) {
     }
 }
 
+/// Any call but a bring-up.
 pub fn call(numbers: &mut Numbers) -> Call {
-    match numbers.below(14) {
-        0 => Call::WhoAmI,
-        1 => Call::SetAddress(numbers.byte()),
-        2 => Call::StartContinuous(numbers.spread(32)),
-        3 => Call::StopContinuous,
-        4 => Call::ReadRange,
-        5 => Call::ReadRangeContinuous,
-        6 => Call::ReadRangeSingle,
-        7 if numbers.one_in(3) => Call::SetBudget(numbers.spread(32)),
-        7 => Call::SetBudget(19_000 + numbers.below(200_000)),
-        8 => Call::SetThresholds(numbers.below(8000) as u16, numbers.below(8200) as u16),
-        9 => Call::GetThresholds,
-        10 => Call::SetGpioConfig(numbers.one_of(&FUNCTIONALITIES), numbers.one_of(&POLARITIES)),
-        11 => Call::ClearInterruptStatus,
-        12 => Call::SetSignalRateLimit((115 + numbers.below(22)) << 23 | numbers.below(1 << 23)),
-        _ => Call::GetBudget,
+    match numbers.one_of(&CALLS[1..]) {
+        Call::WithAddress(_) => unreachable!("is the first"),
+        Call::SetAddress(_) => Call::SetAddress(numbers.byte()),
+        Call::StartContinuous(_) => Call::StartContinuous(numbers.spread(32)),
+        Call::SetBudget(_) if numbers.one_in(3) => Call::SetBudget(numbers.spread(32)),
+        Call::SetBudget(_) => Call::SetBudget(19_000 + numbers.below(200_000)),
+        Call::SetThresholds(..) => Call::SetThresholds(numbers.below(8000) as u16, numbers.below(8200) as u16),
+        Call::SetGpioConfig(..) => Call::SetGpioConfig(numbers.one_of(&FUNCTIONALITIES), numbers.one_of(&POLARITIES)),
+        Call::SetSignalRateLimit(_) => {
+            Call::SetSignalRateLimit((115 + numbers.below(22)) << 23 | numbers.below(1 << 23))
+        }
+        call @ (Call::WhoAmI | Call::StopContinuous | Call::ReadRange | Call::ReadRangeContinuous) => call,
+        call @ (Call::ReadRangeSingle | Call::GetThresholds | Call::ClearInterruptStatus | Call::GetBudget) => call,
     }
 }
 

@@ -1,7 +1,7 @@
 //! Records that are refused: 9 to 13 of SCOPE 9.1.
 
 use crate::bytes::with;
-use crate::call::{Call, Record, CALLS};
+use crate::call::{Call, Record, CALLS, FUNCTIONALITIES, LAST_CODE, POLARITIES};
 use crate::numbers::Numbers;
 
 /// Where a session stands between two records.
@@ -71,13 +71,14 @@ fn refused(state: State) -> Vec<Refused> {
 }
 
 /// The bytes of a record that the arguments of a call may fill.
-fn arguments(code: u8) -> &'static [usize] {
-    match code {
-        1 | 3 => &[5],
-        4 | 9 | 14 => &[2, 3, 4, 5],
-        10 => &[4, 5, 6, 7],
-        12 => &[5, 7],
-        _ => &[],
+fn arguments(call: Call) -> &'static [usize] {
+    match call {
+        Call::WithAddress(_) | Call::SetAddress(_) => &[5],
+        Call::StartContinuous(_) | Call::SetBudget(_) | Call::SetSignalRateLimit(_) => &[2, 3, 4, 5],
+        Call::SetThresholds(..) => &[4, 5, 6, 7],
+        Call::SetGpioConfig(..) => &[5, 7],
+        Call::WhoAmI | Call::StopContinuous | Call::ReadRange | Call::ReadRangeContinuous => &[],
+        Call::ReadRangeSingle | Call::GetThresholds | Call::ClearInterruptStatus | Call::GetBudget => &[],
     }
 }
 
@@ -85,13 +86,13 @@ fn arguments(code: u8) -> &'static [usize] {
 fn malformed() -> Vec<Record> {
     let mut all = vec![[0; 8], [0xFF; 8]];
     all.extend([0, 3, 0x10, 0x81, 0xFF].map(|kind| with(CALLS[0].record(), 0, kind)));
-    all.extend([0, 16, 17, 0x81, 0xFF].map(|code| [1, code, 0, 0, 0, 0, 0, 0]));
+    all.extend([0, LAST_CODE + 1, LAST_CODE + 2, 0x81, 0xFF].map(|code| [1, code, 0, 0, 0, 0, 0, 0]));
     for call in CALLS.into_iter().chain(AT_ONCE) {
         let record = call.record();
-        let unused = (2..8).filter(|index| !arguments(record[1]).contains(index));
+        let unused = (2..8).filter(|index| !arguments(call).contains(index));
         all.extend(unused.map(|index| with(record, index, 1 << index)));
     }
-    let pin = CALLS[11].record();
+    let pin = Call::SetGpioConfig(FUNCTIONALITIES[3], POLARITIES[1]).record();
     all.extend([with(pin, 5, 4), with(pin, 5, 0xFF), with(pin, 7, 2), with(pin, 7, 0xFF)]);
     all
 }

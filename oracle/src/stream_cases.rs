@@ -204,9 +204,9 @@ fn budgets(stream: &mut Stream) {
 pub fn bring_up_budget(first: Replies, second: Replies) -> Trace {
     let (reads, place): (&[Replies], _) = match get(first).0 {
         Err(panic) => (&[first], Some(panic.place)),
-        Ok(budget) if budget < LEAST => (&[first], None),
         Ok(budget) => match set(second, budget) {
             Set::Panics(panic) => (&[first, second], Some(panic.place)),
+            Set::TooShort => (&[first], None),
             Set::Word(_) | Set::NoTime => (&[first, second], None),
         },
     };

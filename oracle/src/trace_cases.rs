@@ -4,9 +4,10 @@ use crate::antt::File;
 use crate::budget::Replies;
 use crate::budget_cases::BENCH;
 use crate::bus::ADDRESS;
-use crate::call::Call;
+use crate::call::{Answer, Call, LAST_CODE};
 use crate::random_traces as random;
-use crate::traces::{Sensor, Trace};
+use crate::traces::{Line, Sensor, Trace};
+use std::collections::BTreeSet;
 use vl53l0x::inner::Fields;
 use vl53l0x::{GpioFunctionality, GpioPolarity};
 
@@ -60,12 +61,16 @@ pub fn files() -> Vec<File> {
     let calm = bring_up("calm", calm()).answered(0, 0);
     let up = calm.after.expect("the driver is up");
     let loud = Trace::new("loud", None).call(Call::WithAddress(0xFF), loud()).answered(0, 0);
-    let file = |module, about, list, traces| File { module, about, list, traces };
+    let file = |module, about: &str, list, traces| File { module, about: about.to_string(), list, traces };
+    let measuring = file("Measuring", "Calls 2 to 8, answered Done.", "measuring", measuring(up));
+    let about = format!("Calls 9 to {LAST_CODE}, answered Done.");
+    let settings = file("Settings", &about, "settings", settings(up));
+    assert!(done([&measuring, &settings]).into_iter().eq(2..=LAST_CODE), "a call has no run that is answered Done");
     vec![
         file("BringUp", "Bring-ups that succeed.", "bring_ups", vec![calm, loud]),
         file("InUse", "A bring-up and many calls after it.", "in_use", vec![in_use()]),
-        file("Measuring", "Calls 2 to 8, answered Done.", "measuring", measuring(up)),
-        file("Settings", "Calls 9 to 15, answered Done.", "settings", settings(up)),
+        measuring,
+        settings,
         file("BringUpFailures", "Bring-ups that end early.", "failed_bring_ups", failed_bring_ups(up)),
         file("RangeFailures", "Failed transfers in calls 6, 7 and 8.", "failed_ranges", failed_ranges(up)),
         file("CallFailures", "Failed transfers in the other calls.", "failed_calls", failed_calls(up)),
@@ -76,6 +81,20 @@ pub fn files() -> Vec<File> {
         file("Random", "Calls with pseudo-random arguments, replies and failures.", "random", random::calls()),
         file("RandomBringUp", "Bring-ups with pseudo-random replies.", "random_bring_ups", random::bring_ups()),
     ]
+}
+
+/// The codes of the calls that are answered Done.
+fn done(files: [&File; 2]) -> BTreeSet<u8> {
+    let (mut codes, mut code) = (BTreeSet::new(), 0);
+    for (record, line) in files.into_iter().flat_map(|file| &file.traces).flat_map(|trace| &trace.steps) {
+        if let [1, next, ..] = *record {
+            code = next;
+        }
+        if let Line::Answer(Answer(0, _), _) = line {
+            codes.insert(code);
+        }
+    }
+    codes
 }
 
 /// A range word, behind these status reads.

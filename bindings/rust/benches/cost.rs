@@ -6,7 +6,7 @@ use std::hint::black_box;
 use std::num::NonZeroU8;
 use vl53l0x::inner::{self, Fields};
 use vl53l0x::VL53L0x;
-use vl53l0x_session::{drive, exported, Answer, Bus, Call, Session};
+use vl53l0x_session::{drive, exported, Answer, Bus, Call, Outcome, Session};
 use vl53l0x_simulator::{Simulator, Wait};
 
 const ADDRESS: u8 = 0x29;
@@ -98,8 +98,8 @@ impl Case {
         let mut session = *self.session.as_bytes();
         let mut record = self.call.record();
         let tape = self.rewound();
-        let mut outcome = [0; 11];
-        while exported::step(&mut session, &record, &mut outcome) == 16 {
+        let mut outcome = [0; Outcome::SIZE];
+        while exported::step(&mut session, &record, &mut outcome) == exported::TRANSFER {
             let (count, reads) = (usize::from(outcome[2]), usize::from(outcome[10]));
             record = [2, 0, 0, 0, 0, 0, 0, 0];
             if let Err(code) = tape.transfer(outcome[1], &outcome[3..][..count], &mut record[2..][..reads]) {

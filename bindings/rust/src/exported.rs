@@ -3,6 +3,13 @@
 
 #![allow(unsafe_code)]
 
+/// What is returned, and byte 0 of the outcome, where that is a transfer.
+pub const TRANSFER: u8 = 255;
+
+/// What is returned where the outcome has another length than [`Outcome::SIZE`](crate::Outcome::SIZE). Neither is a
+/// failure code of a bus, which never stands in byte 0 of an outcome.
+pub const NOT_PUT: u8 = 254;
+
 extern "C" {
     fn vl53l0x_fresh(session: *mut u8, session_len: usize) -> u8;
 
@@ -27,7 +34,7 @@ pub fn fresh(session: &mut [u8]) -> u8 {
 
 /// Hands a record to a session, writes both the session that it leads to and the outcome, and returns byte 0 of the
 /// outcome. With a record that is not 8 bytes long the outcome is answer 14, with bytes that are no session answer 15,
-/// and the session is as it was. If the outcome is not 11 bytes long: changes nothing and returns 17.
+/// and the session is as it was. If the outcome is not 25 bytes long: changes nothing and returns [`NOT_PUT`].
 #[inline]
 pub fn step(session: &mut [u8], record: &[u8], outcome: &mut [u8]) -> u8 {
     // SAFETY: each pointer goes with the length of its own slice; the two slices that are written are borrowed
@@ -44,8 +51,9 @@ pub fn step(session: &mut [u8], record: &[u8], outcome: &mut [u8]) -> u8 {
     }
 }
 
-/// Writes the transfer that a waiting session has out and returns 16; the outcome is answer 11 where no call waits, and
-/// 15 where the session is ill-formed or none. If the outcome is not 11 bytes long: changes nothing and returns 17.
+/// Writes the transfer that a waiting session has out and returns [`TRANSFER`]; the outcome is answer 11 where no call
+/// waits, and 15 where the session is ill-formed or none. If the outcome is not 25 bytes long: changes nothing and
+/// returns [`NOT_PUT`].
 pub fn outstanding(session: &[u8], outcome: &mut [u8]) -> u8 {
     // SAFETY: as in `step`; the session is only read.
     unsafe { vl53l0x_outstanding(session.as_ptr(), session.len(), outcome.as_mut_ptr(), outcome.len()) }

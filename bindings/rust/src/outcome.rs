@@ -1,5 +1,6 @@
 //! What a record leads to.
 
+use crate::exported::TRANSFER;
 use crate::Answer;
 
 /// What a record leads to: a transfer to be made, or an answer.
@@ -47,18 +48,27 @@ impl Transfer {
 }
 
 impl Outcome {
-    /// Reads the eleven bytes of an outcome; none if they are no outcome of the library.
+    /// The length of an outcome.
+    pub const SIZE: usize = 25;
+
+    /// Reads the bytes of an outcome; none if they are no outcome of the library.
     #[inline]
-    pub fn from_bytes(bytes: &[u8; 11]) -> Option<Outcome> {
+    pub fn from_bytes(bytes: &[u8; Outcome::SIZE]) -> Option<Outcome> {
         match *bytes {
-            [16, address, count @ 1..=7, written @ .., reads @ (0 | 1 | 2 | 6)] => {
-                Some(Outcome::Transfer(Transfer { address, count, written, reads }))
+            [TRANSFER, address, count @ 1..=7, w0, w1, w2, w3, w4, w5, w6, reads @ (0 | 1 | 2 | 6), rest @ ..] => {
+                let written = [w0, w1, w2, w3, w4, w5, w6];
+                are_zeros(&rest).then_some(Outcome::Transfer(Transfer { address, count, written, reads }))
             }
-            [number, v0, v1, v2, v3, t0, t1, t2, t3, 0, 0] => {
+            // There is room for five values; today an answer has one.
+            [number, v0, v1, v2, v3, others @ .., t0, t1, t2, t3] => {
                 let answer = Answer::of(number, u32::from_le_bytes([v0, v1, v2, v3]))?;
-                Some(Outcome::Answer { answer, transfers: u32::from_le_bytes([t0, t1, t2, t3]) })
+                let transfers = u32::from_le_bytes([t0, t1, t2, t3]);
+                are_zeros(&others).then_some(Outcome::Answer { answer, transfers })
             }
-            _ => None,
         }
     }
+}
+
+fn are_zeros(bytes: &[u8]) -> bool {
+    bytes.iter().all(|byte| *byte == 0)
 }

@@ -42,7 +42,7 @@ impl Session {
     /// Hands a record to the session: one of a call, or one of a reply.
     #[inline]
     pub fn step(&mut self, record: &[u8; 8]) -> Outcome {
-        let mut outcome = [0; 11];
+        let mut outcome = [0; Outcome::SIZE];
         exported::step(&mut self.bytes, record, &mut outcome);
         known(&outcome)
     }
@@ -66,7 +66,7 @@ impl Session {
     /// The transfer that is out; where none is, [`Answer::NoCallWaits`](crate::Answer::NoCallWaits) or
     /// [`Answer::IllFormedSession`](crate::Answer::IllFormedSession).
     pub fn outstanding(&self) -> Outcome {
-        let mut outcome = [0; 11];
+        let mut outcome = [0; Outcome::SIZE];
         exported::outstanding(&self.bytes, &mut outcome);
         known(&outcome)
     }
@@ -127,7 +127,7 @@ impl Session {
     }
 
     /// The budget that a bring-up has read, in microseconds.
-    pub fn own(&self) -> u32 {
+    pub fn found_budget(&self) -> u32 {
         self.long(24)
     }
 
@@ -144,6 +144,6 @@ impl Session {
 
 /// The outcome that the library has written. Its contract leaves no other bytes.
 #[inline]
-fn known(outcome: &[u8; 11]) -> Outcome {
+fn known(outcome: &[u8; Outcome::SIZE]) -> Outcome {
     Outcome::from_bytes(outcome).expect("the library writes an outcome")
 }

@@ -1,8 +1,15 @@
 //! Input that the exported functions refuse: what they say to it, and that all else stays as it was.
 
-use vl53l0x_session::exported;
+#[allow(dead_code)]
+mod calls;
 
-const FRESH: [u8; 52] = [0; 52];
+use vl53l0x_session::{exported, Outcome, Session};
+
+/// The lengths of a session and of an outcome.
+const SESSION: usize = Session::SIZE;
+const OUTCOME: usize = Outcome::SIZE;
+
+const FRESH: [u8; SESSION] = [0; SESSION];
 const BRING_UP: [u8; 8] = [1, 1, 0, 0, 0, 0x29, 0, 0];
 const WHO_AM_I: [u8; 8] = [1, 2, 0, 0, 0, 0, 0, 0];
 const REPLY: [u8; 8] = [2, 0, 0xEE, 0, 0, 0, 0, 0];
@@ -12,19 +19,19 @@ const FAILURE: [u8; 8] = [2, 7, 0, 0, 0, 0, 0, 0];
 const BUDGET: u32 = 33_000;
 
 /// A session of a sensor that is up.
-fn up() -> [u8; 52] {
+fn up() -> [u8; SESSION] {
     with(with(FRESH, 0, &[1, 0x29, 0x3C]), 3, &BUDGET.to_le_bytes())
 }
 
 /// A session that waits for the reply to `who_am_i`.
-fn waiting() -> [u8; 52] {
+fn waiting() -> [u8; SESSION] {
     let mut session = up();
-    assert_eq!(step(&mut session, &WHO_AM_I).0, 16);
+    assert_eq!(step(&mut session, &WHO_AM_I).0, exported::TRANSFER);
     session
 }
 
 /// A session that waits in a call.
-fn waiting_in(code: u8, a: u32, b: u16, at: u8, idle: u32, transfers: u32) -> [u8; 52] {
+fn waiting_in(code: u8, a: u32, b: u16, at: u8, idle: u32, transfers: u32) -> [u8; SESSION] {
     let session = if code == 1 { FRESH } else { up() };
     let session = with(session, 7, &[code]);
     let session = with(with(session, 8, &a.to_le_bytes()), 12, &b.to_le_bytes());
@@ -38,8 +45,8 @@ fn with<const N: usize>(mut bytes: [u8; N], from: usize, others: &[u8]) -> [u8; 
 }
 
 /// The outcome of a refusal.
-fn refusal(number: u8) -> [u8; 11] {
-    with([0; 11], 0, &[number])
+fn refusal(number: u8) -> [u8; OUTCOME] {
+    with([0; OUTCOME], 0, &[number])
 }
 
 /// Lends a copy that stands between other bytes to a function, and tells what it returned and left. The others have to
@@ -71,23 +78,23 @@ fn raw_step(session: &[u8], record: &[u8], outcome: &[u8]) -> (u8, Vec<u8>, Vec<
 }
 
 /// One record, with an outcome of the right length.
-fn step<const N: usize>(session: &mut [u8; N], record: &[u8]) -> (u8, [u8; 11]) {
-    let (returned, after, outcome) = raw_step(session, record, &[0xA5; 11]);
+fn step<const N: usize>(session: &mut [u8; N], record: &[u8]) -> (u8, [u8; OUTCOME]) {
+    let (returned, after, outcome) = raw_step(session, record, &[0xA5; OUTCOME]);
     session.copy_from_slice(&after);
-    (returned, outcome.try_into().expect("eleven bytes"))
+    (returned, outcome.try_into().expect("an outcome"))
 }
 
 /// The record is refused so, and the session stays.
 fn assert_refused(session: &[u8], record: &[u8], number: u8) {
-    let (returned, after, outcome) = raw_step(session, record, &[0xA5; 11]);
+    let (returned, after, outcome) = raw_step(session, record, &[0xA5; OUTCOME]);
     assert_eq!((returned, &outcome[..]), (number, &refusal(number)[..]), "{session:02X?} {record:02X?}");
     assert_eq!(after, session, "{record:02X?}");
 }
 
 /// What is out is this, and the session stays.
-fn assert_outstanding(session: &[u8], expected: [u8; 11]) {
+fn assert_outstanding(session: &[u8], expected: [u8; OUTCOME]) {
     let (returned, after) = lend(session, |session| {
-        let (returned, outcome) = lend(&[0xA5; 11], |outcome| exported::outstanding(session, outcome));
+        let (returned, outcome) = lend(&[0xA5; OUTCOME], |outcome| exported::outstanding(session, outcome));
         assert_eq!(outcome, expected, "{session:02X?}");
         returned
     });
@@ -96,7 +103,7 @@ fn assert_outstanding(session: &[u8], expected: [u8; 11]) {
 
 #[test]
 fn a_fresh_session_has_52_bytes() {
-    assert_eq!(lend(&[0xA5; 52], exported::fresh), (0, FRESH.to_vec()));
+    assert_eq!(lend(&[0xA5; SESSION], exported::fresh), (0, FRESH.to_vec()));
     for length in [0, 1, 51, 53, 104] {
         let bytes = vec![0x5A; length];
         assert_eq!(lend(&bytes, exported::fresh), (15, bytes));
@@ -108,24 +115,25 @@ fn a_fresh_session_has_52_bytes() {
 fn a_budget_stands_low_byte_first() {
     let mut session = with(up(), 3, &[0; 4]);
     let mut record = with([1, 9, 0, 0, 0, 0, 0, 0], 2, &BUDGET.to_be_bytes());
-    while step(&mut session, &record).0 == 16 {
+    while step(&mut session, &record).0 == exported::TRANSFER {
         record = [2, 0, 0, 0, 0, 0, 0, 0];
     }
     assert_eq!(session, up());
 }
 
 #[test]
-fn an_outcome_has_11_bytes() {
-    for length in [0, 1, 10, 12, 22] {
+fn an_outcome_has_25_bytes() {
+    assert_eq!((OUTCOME, exported::TRANSFER, exported::NOT_PUT), (25, 255, 254));
+    for length in [0, 1, 24, 26, 50] {
         let outcome = vec![0x5A; length];
         for session in [FRESH, up(), waiting()] {
             for record in [&BRING_UP[..], &WHO_AM_I, &REPLY, &FAILURE, &[0; 8], &[], &[2; 9]] {
-                assert_eq!(raw_step(&session, record, &outcome), (17, session.to_vec(), outcome.clone()));
+                assert_eq!(raw_step(&session, record, &outcome), (254, session.to_vec(), outcome.clone()));
             }
             // Also where the session is none.
             for session in [&session[..], &session[1..]] {
-                assert_eq!(raw_step(session, &REPLY, &outcome), (17, session.to_vec(), outcome.clone()));
-                assert_eq!(lend(&outcome, |outcome| exported::outstanding(session, outcome)), (17, outcome.clone()));
+                assert_eq!(raw_step(session, &REPLY, &outcome), (254, session.to_vec(), outcome.clone()));
+                assert_eq!(lend(&outcome, |outcome| exported::outstanding(session, outcome)), (254, outcome.clone()));
             }
         }
     }
@@ -173,7 +181,7 @@ fn the_first_byte_of_a_session_is_0_or_1() {
 }
 
 /// For each code: greatest A, greatest B, number of steps, most transfers.
-const CALLS: [(u8, u32, u16, u8, u32); 15] = [
+const CALLS: &[(u8, u32, u16, u8, u32)] = &[
     (1, 255, 0, 156, 85_688),
     (2, 0, 0, 1, 1),
     (3, 255, 0, 1, 1),
@@ -191,12 +199,17 @@ const CALLS: [(u8, u32, u16, u8, u32); 15] = [
     (15, 0, 0, 6, 6),
 ];
 
+/// What is no code of a call.
+fn no_codes() -> impl Iterator<Item = u8> {
+    (0..=255).filter(|code| !calls::codes().contains(code))
+}
+
 /// The steps that are waits: code, step, limit.
-const WAITS: [(u8, u8, u32); 6] =
-    [(1, 26, 65_535), (1, 145, 10_000), (1, 151, 10_000), (7, 0, 10_000), (8, 8, 10_000), (8, 9, 10_000)];
+const WAITS: &[(u8, u8, u32)] =
+    &[(1, 26, 65_535), (1, 145, 10_000), (1, 151, 10_000), (7, 0, 10_000), (8, 8, 10_000), (8, 9, 10_000)];
 
 /// Whatever it meets, a session that waits in no call refuses it.
-fn assert_ill_formed(session: [u8; 52]) {
+fn assert_ill_formed(session: [u8; SESSION]) {
     for record in [BRING_UP, WHO_AM_I, REPLY, FAILURE, [0; 8], [0xFF; 8]] {
         assert_refused(&session, &record, 15);
     }
@@ -204,18 +217,24 @@ fn assert_ill_formed(session: [u8; 52]) {
 }
 
 /// A session that waits has a transfer out and takes its failure.
-fn assert_waits(session: [u8; 52]) {
-    let (returned, outcome) = lend(&[0xA5; 11], |outcome| exported::outstanding(&session, outcome));
-    assert_eq!((returned, outcome[0]), (16, 16), "{session:02X?}");
+fn assert_waits(session: [u8; SESSION]) {
+    let (returned, outcome) = lend(&[0xA5; OUTCOME], |outcome| exported::outstanding(&session, outcome));
+    assert_eq!((returned, outcome[0]), (exported::TRANSFER, exported::TRANSFER), "{session:02X?}");
     assert_refused(&session, &BRING_UP, 10);
     let mut after = session;
-    assert!([3, 16].contains(&step(&mut after, &FAILURE).0), "{session:02X?}");
+    assert!([3, exported::TRANSFER].contains(&step(&mut after, &FAILURE).0), "{session:02X?}");
     assert_ne!(after, session);
+}
+
+/// Each has its row above, and no other code has one.
+#[test]
+fn the_calls_are_those_of_the_list() {
+    assert_eq!(CALLS.iter().map(|call| call.0).collect::<Vec<_>>(), calls::codes());
 }
 
 #[test]
 fn a_call_waits_within_its_bounds() {
-    for (code, a, b, steps, ceiling) in CALLS {
+    for &(code, a, b, steps, ceiling) in CALLS {
         assert_waits(waiting_in(code, a, b, 0, 0, 1));
         assert_waits(waiting_in(code, 0, 0, steps - 1, 0, ceiling));
         assert_ill_formed(waiting_in(code, 0, 0, steps, 0, 1));
@@ -232,16 +251,16 @@ fn a_call_waits_within_its_bounds() {
         let session = waiting_in(code, 0, 0, 0, 0, 1);
         assert_ill_formed(with(session, 0, &[1 - session[0]]));
     }
-    for code in 16..=255 {
+    for code in no_codes().filter(|code| *code != 0) {
         assert_ill_formed(waiting_in(code, 0, 0, 0, 0, 1));
     }
 }
 
 #[test]
 fn idle_reads_are_those_of_a_wait() {
-    for (code, _, _, steps, _) in CALLS {
+    for &(code, _, _, steps, _) in CALLS {
         for at in 0..steps {
-            let limit = WAITS.into_iter().find(|wait| (wait.0, wait.1) == (code, at)).map_or(1, |wait| wait.2);
+            let limit = WAITS.iter().find(|wait| (wait.0, wait.1) == (code, at)).map_or(1, |wait| wait.2);
             assert_waits(waiting_in(code, 0, 0, at, limit - 1, 1));
             assert_ill_formed(waiting_in(code, 0, 0, at, limit, 1));
             assert_ill_formed(waiting_in(code, 0, 0, at, u32::MAX, 1));
@@ -257,7 +276,7 @@ fn a_record_is_a_call_or_a_reply() {
                 assert_refused(&session, &with(record, 0, &[kind]), 13);
             }
         }
-        for code in (0..=255).filter(|code| !(1..=15).contains(code)) {
+        for code in no_codes() {
             assert_refused(&session, &[1, code, 0, 0, 0, 0, 0, 0], 13);
         }
     }
@@ -266,7 +285,7 @@ fn a_record_is_a_call_or_a_reply() {
 #[test]
 fn arguments_are_in_range() {
     for session in [FRESH, up(), waiting()] {
-        for (code, a, b, ..) in CALLS {
+        for &(code, a, b, ..) in CALLS {
             if let Some(a) = a.checked_add(1) {
                 for a in [a, u32::MAX] {
                     assert_refused(&session, &with([1, code, 0, 0, 0, 0, 0, 0], 2, &a.to_be_bytes()), 13);
@@ -283,7 +302,7 @@ fn arguments_are_in_range() {
 
 #[test]
 fn calls_and_replies_come_in_turn() {
-    for (code, a, b, ..) in CALLS {
+    for &(code, a, b, ..) in CALLS {
         let [a0, a1, a2, a3] = a.to_be_bytes();
         let [b0, b1] = b.to_be_bytes();
         for record in [[1, code, 0, 0, 0, 0, 0, 0], [1, code, a0, a1, a2, a3, b0, b1]] {
@@ -299,7 +318,7 @@ fn calls_and_replies_come_in_turn() {
         }
         assert_outstanding(&session, refusal(11));
     }
-    assert_outstanding(&waiting(), [16, 0x29, 1, 0xC0, 0, 0, 0, 0, 0, 0, 1]);
+    assert_outstanding(&waiting(), with([0; OUTCOME], 0, &[255, 0x29, 1, 0xC0, 0, 0, 0, 0, 0, 0, 1]));
 }
 
 #[test]

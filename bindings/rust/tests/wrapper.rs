@@ -1,5 +1,8 @@
 //! The safe wrapper: records, outcomes, answers in words, sessions as bytes, replies.
 
+#[allow(dead_code)]
+mod calls;
+
 use std::num::NonZeroU8;
 use vl53l0x_session::{drive, Answer, Call, GpioFunctionality, GpioPolarity, Outcome, Session};
 use vl53l0x_simulator::Simulator;
@@ -19,7 +22,7 @@ fn brought_up(sensor: &mut Simulator) -> Session {
 
 #[test]
 fn calls_have_their_records() {
-    for (call, record) in [
+    let records = [
         (Call::NEW, [1, 1, 0, 0, 0, 0x29, 0, 0]),
         (Call::WithAddress(0x30), [1, 1, 0, 0, 0, 0x30, 0, 0]),
         (Call::WhoAmI, [1, 2, 0, 0, 0, 0, 0, 0]),
@@ -39,9 +42,28 @@ fn calls_have_their_records() {
         (Call::ClearInterruptStatus, [1, 13, 0, 0, 0, 0, 0, 0]),
         (Call::SetSignalRateLimit(0.25), [1, 14, 0x3E, 0x80, 0, 0, 0, 0]),
         (Call::GetMeasurementTimingBudget, [1, 15, 0, 0, 0, 0, 0, 0]),
-    ] {
+    ];
+    for (call, record) in records {
         assert_eq!(call.record(), record, "{call:?}");
     }
+    let mut codes = records.map(|(_, record)| record[1]).to_vec();
+    codes.dedup();
+    assert_eq!(codes, calls::codes());
+}
+
+/// The first bytes of an outcome, and zeros.
+fn padded<const N: usize>(first: [u8; N]) -> [u8; 25] {
+    let mut bytes = [0; 25];
+    bytes[..N].copy_from_slice(&first);
+    bytes
+}
+
+/// An answer after 85,688 transfers.
+fn answer_bytes(number: u8, value: u32) -> [u8; 25] {
+    let [v0, v1, v2, v3] = value.to_le_bytes();
+    let mut bytes = padded([number, v0, v1, v2, v3]);
+    bytes[21..].copy_from_slice(&[0xB8, 0x4E, 1, 0]);
+    bytes
 }
 
 #[test]
@@ -64,22 +86,26 @@ fn outcomes_are_read_from_their_bytes() {
         (14, 0, Answer::SpareBytes),
         (15, 0, Answer::IllFormedSession),
     ] {
-        let [v0, v1, v2, v3] = u32::to_le_bytes(value);
-        let bytes = [number, v0, v1, v2, v3, 0xB8, 0x4E, 1, 0, 0, 0];
+        let bytes = answer_bytes(number, value);
         assert_eq!(Outcome::from_bytes(&bytes), Some(Outcome::Answer { answer, transfers: 85_688 }));
+        for index in 5..21 {
+            let mut more = bytes;
+            more[index] = 1;
+            assert_eq!(Outcome::from_bytes(&more), None, "a second value");
+        }
     }
-    let outcome = Outcome::from_bytes(&[16, 0x29, 3, 0x71, 0x02, 0x92, 0, 0, 0, 0, 1]);
+    let outcome = Outcome::from_bytes(&padded([255, 0x29, 3, 0x71, 0x02, 0x92, 0, 0, 0, 0, 1]));
     let Some(Outcome::Transfer(transfer)) = outcome else { panic!("{outcome:?}") };
     assert_eq!((transfer.address(), transfer.written(), transfer.reads()), (0x29, &[0x71, 0x02, 0x92][..], 1));
     for bytes in [
-        [17, 0, 0, 0, 0, 0, 0, 0, 0, 0, 0],
-        [16, 0x29, 0, 0, 0, 0, 0, 0, 0, 0, 1], // writes nothing
-        [16, 0x29, 8, 0, 0, 0, 0, 0, 0, 0, 1], // writes more than there is
-        [16, 0x29, 1, 0, 0, 0, 0, 0, 0, 0, 3], // reads three bytes
-        [0, 0, 0, 0, 0, 0, 0, 0, 0, 1, 0],     // more than an answer has
-        [3, 0, 1, 0, 0, 0, 0, 0, 0, 0, 0],     // a failure code of nine bits
-        [3, 0, 0, 0, 0, 0, 0, 0, 0, 0, 0],     // a failure without a code
-        [4, 0, 0, 0, 1, 0, 0, 0, 0, 0, 0],     // a value where there is none
+        padded([254]),                                        // what is returned where none was put
+        padded([255, 0x29, 0, 0, 0, 0, 0, 0, 0, 0, 1]),       // writes nothing
+        padded([255, 0x29, 8, 0, 0, 0, 0, 0, 0, 0, 1]),       // writes more than there is
+        padded([255, 0x29, 1, 0, 0, 0, 0, 0, 0, 0, 3]),       // reads three bytes
+        padded([255, 0x29, 1, 0, 0, 0, 0, 0, 0, 0, 1, 0, 1]), // more than a transfer has
+        padded([3, 0, 1]),                                    // a failure code of nine bits
+        padded([3]),                                          // a failure without a code
+        padded([4, 0, 0, 0, 1]),                              // a value where there is none
     ] {
         assert_eq!(Outcome::from_bytes(&bytes), None, "{bytes:?}");
     }
@@ -173,7 +199,7 @@ fn fields_stand_at_their_places() {
     assert_eq!((session.up(), session.address(), session.stop(), session.budget()), (true, 101, 102, long(3)));
     assert_eq!((session.code(), session.a(), session.b()), (107, long(8), 113 * 256 + 112));
     assert_eq!((session.at(), session.idle(), session.transfers()), (114, long(15), long(19)));
-    assert_eq!((session.failed(), session.own(), session.carried()), (123, long(24), &bytes[28..]));
+    assert_eq!((session.failed(), session.found_budget(), session.carried()), (123, long(24), &bytes[28..]));
     assert_eq!(session.as_bytes()[..], bytes);
     assert!(!Session::new().up());
 }

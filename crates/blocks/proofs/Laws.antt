@@ -7,11 +7,11 @@ use borrow.Author.Tests.{eqb-true}
 use lib.ListN.{length, drop, length-take, length-drop, length-append, take-append-drop}
 use Rattle.session.specs.declared.Session.{Session}
 use Rattle.session.specs.Machine.{Outcome as Result, sent, answered, refused, broken, fresh_session}
-use Rattle.session.specs.Records.{Record, record_of, records_of, step_def}
-use Rattle.session.specs.History.{Entry, run_def, got_of, session_of, session_after, Genuine, in_order}
+use Rattle.session.specs.Records.{Record, record_of, records_of}
+use Rattle.session.specs.History.{step_def, Entry, run_def, got_of, session_of, session_after, Genuine, in_order}
 use Rattle.session.proofs.Demand3.{demand_3}
-use Rattle.reactions.specs.Outcome.{outcome_of}
-use Rattle.reactions.specs.declared.Outcome.{Outcome}
+use Rattle.session.specs.Given.{outcome_of}
+use Rattle.session.specs.declared.Outcome.{Outcome}
 use Rattle.lines.specs.Lines.{given_line, outcome_line, fields_line}
 use Rattle.blocks.specs.Blocks.{lines_of, session_past}
 use Rattle.blocks.specs.Input.{after_lines, text_from, spare_line, rolltrace_text, rollfields_text}
@@ -109,11 +109,11 @@ module _ (bytes : List ℕ) (w : length bytes % 8 ≡ 0) where
   unfolding lines_of
   told_all line =
       let d = demand_3 bytes in
-      let rs : in_order history [] ≡ records_of bytes = rw w at d.records in
+      let rs : in_order history [] ≡ records_of bytes = rw w at d.beyond.records in
       rw (sym rs) (all_told line fresh_session history [] ∙ append-nil (told line fresh_session history))
 
   lines_told : lines_of outcome_line fresh_session (records_of bytes) ≡ history_lines history
-  lines_told = told_all outcome_line ∙ told_lines history (demand_3 bytes).genuine
+  lines_told = told_all outcome_line ∙ told_lines history (demand_3 bytes).beyond.genuine
 
   fields_told : lines_of (λ o. fields_line o.session.driver) fresh_session (records_of bytes) ≡ history_fields history
   fields_told = told_all (λ o. fields_line o.session.driver) ∙ told_fields history

@@ -8,12 +8,13 @@ use lib.ListN.{length, get_or, take, drop, length-drop, length-append, take-appe
 use lib.Seq.{sets-eq, length-take-le, take_at, drop_at, drop-drop, drop-cons}
 use Rattle.std.specs.Prelude.{map}
 use Rattle.session.specs.declared.Session.{Session}
-use Rattle.session.specs.Records.{records_of, step_def}
+use Rattle.session.specs.Records.{records_of}
 use Rattle.session.specs.Machine.{Outcome as Result, sent, answered, refused, broken}
-use Rattle.session.specs.History.{session_of}
-use Rattle.reactions.specs.Outcome.{outcome_of}
-use Rattle.reactions.specs.declared.Outcome.{Outcome}
+use Rattle.session.specs.History.{step_def, session_of}
+use Rattle.session.specs.Given.{outcome_of}
+use Rattle.session.specs.declared.Outcome.{Outcome}
 use Rattle.records.specs.Records.{record_in}
+use Rattle.lines.specs.Put.{line_room}
 use Rattle.blocks.specs.declared.Printout.{Printout}
 use Rattle.blocks.specs.Blocks.{lines_of, session_past, OneMore, Printed}
 
@@ -28,17 +29,17 @@ kept_session (broken s) = refl
 module _ (line_of : Outcome → List ℕ) (s₀ : Session) (chunks : List (List ℕ)) (out₀ : List ℕ) where
   -- where the printing of a list of chunks is
   pub record Going (out : List ℕ) (p : Printout) (i : ℕ) : Type 0 where
-    pub room : 32 * length chunks ≤ length out₀
-    pub used : p.count ≤ 32 * i
+    pub room : line_room * length chunks ≤ length out₀
+    pub used : p.count ≤ line_room * i
     pub size : length out ≡ length out₀
     pub after : drop p.count out ≡ drop p.count out₀
     pub text : take p.count out ++ lines_of line_of p.session (map record_in (drop i chunks)) ≡ lines_of line_of s₀ (map record_in chunks)
     pub session : session_past p.session (map record_in (drop i chunks)) ≡ session_past s₀ (map record_in chunks)
 
-  pub going_from : 32 * length chunks ≤ length out₀ → Going out₀ (record { session = s₀; count = 0 }) 0
+  pub going_from : line_room * length chunks ≤ length out₀ → Going out₀ (record { session = s₀; count = 0 }) 0
   going_from r = record { room = r; used = zero-le; size = refl; after = refl; text = refl; session = refl }
 
-  pub line_fits : {out : List ℕ} {p : Printout} {i : ℕ} → Going out p i → i < length chunks → p.count + 32 ≤ length out
+  pub line_fits : {out : List ℕ} {p : Printout} {i : ℕ} → Going out p i → i < length chunks → p.count + line_room ≤ length out
   line_fits g more = omega (arith, g.used, g.size, g.room, more)
 
   pub goes_on : {out out' : List ℕ} {p p' : Printout} {i : ℕ} (d : List ℕ) → Going out p i → i < length chunks

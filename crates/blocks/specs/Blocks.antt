@@ -1,12 +1,12 @@
 -- The lines of records, one after the other, as a program prints them, block by block (SCOPE 10.1).
-use Rattle.std.specs.Prelude.{◌≡◌, List, [], ◌∷◌, ◌++◌, ℕ, ◌+◌, ◌*◌, ◌≤◌, ◌<◌, length, drop}
+use Rattle.std.specs.Prelude.{◌≡◌, List, [], ◌∷◌, ◌++◌, ℕ, ◌+◌, ◌*◌, ◌/◌, ◌≤◌, ◌<◌, length, drop}
 use Rattle.session.specs.declared.Session.{Session}
-use Rattle.session.specs.Records.{Record, records_of, step_def}
-use Rattle.session.specs.History.{session_of}
-use Rattle.reactions.specs.declared.Outcome.{Outcome}
-use Rattle.reactions.specs.Outcome.{outcome_of}
+use Rattle.session.specs.Records.{Record, records_of}
+use Rattle.session.specs.History.{step_def, session_of}
+use Rattle.session.specs.declared.Outcome.{Outcome}
+use Rattle.session.specs.Given.{outcome_of}
 use Rattle.records.specs.Records.{record_in}
-use Rattle.lines.specs.Put.{Put}
+use Rattle.lines.specs.Put.{line_room, Put}
 use Rattle.blocks.specs.declared.Printout.{Printout}
 
 -- the lines of records, where `line` is the line of an outcome: each record meets the session that the one before it left
@@ -21,7 +21,7 @@ session_past s (r ∷ rs) = session_past (session_of (step_def s r)) rs
 -- the line of one record, and the session after it
 pub record OneMore (line_of : Outcome → List ℕ) (p : Printout) (bytes out out' : List ℕ) (r : Printout) : Type 0 where
   pub line : Put out p.count (line_of (outcome_of (step_def p.session (record_in bytes)))) out' r.count
-  pub short : r.count ≤ p.count + 32
+  pub short : r.count ≤ p.count + line_room
   pub session : r.session ≡ session_of (step_def p.session (record_in bytes))
 
 -- the lines of a list stand at the start of the lent bytes, and those after them are as they were
@@ -30,14 +30,18 @@ pub record Printed (line_of : Outcome → List ℕ) (s : Session) (bytes out out
   pub count : r.count ≡ length (lines_of line_of s (records_of bytes))
   pub session : r.session ≡ session_past s (records_of bytes)
 
+-- the room for the lines of so many bytes of records
+abbrev pub text_room : ℕ → ℕ
+text_room n = line_room * (n / 8)
+
 -- where the room is too small nothing is done
 pub record NotPrinted (s : Session) (out out' : List ℕ) (r : Printout) : Type 0 where
   pub text : out' ≡ out
   pub count : r.count ≡ 0
   pub session : r.session ≡ s
 
--- four bytes of room for each byte of records are enough: a line has at most 32
+-- room for a line for each whole record is enough
 pub record Prints (line_of : Outcome → List ℕ) (s : Session) (bytes out out' : List ℕ) (r : Printout) : Type 0 where
-  pub with_room : 4 * length bytes ≤ length out → Printed line_of s bytes out out' r
-  pub without : length out < 4 * length bytes → NotPrinted s out out' r
+  pub with_room : text_room (length bytes) ≤ length out → Printed line_of s bytes out out' r
+  pub without : length out < text_room (length bytes) → NotPrinted s out out' r
   pub fits : r.count ≤ length out'

@@ -6,7 +6,7 @@ use Rattle.session.specs.declared.Session.{Session}
 use Rattle.session.specs.Bus.{number_of}
 use Rattle.session.specs.Machine.{fresh_session}
 use Rattle.session.specs.Records.{records_of, is_whole}
-use Rattle.reactions.specs.declared.Outcome.{Outcome}
+use Rattle.session.specs.declared.Outcome.{Outcome}
 use Rattle.lines.specs.Lines.{answer_line, fields_line, outcome_line}
 use Rattle.blocks.specs.Blocks.{lines_of}
 

@@ -5,7 +5,7 @@ use Rattle.session.specs.Bus.{number_of}
 use Rattle.session.specs.Machine.{fresh_session}
 use Rattle.session.specs.Records.{records_of, is_whole}
 use Rattle.session.specs.History.{Got, transfer, answer, refusal, Entry, run_def, session_after}
-use Rattle.reactions.specs.declared.Outcome.{Outcome}
+use Rattle.session.specs.declared.Outcome.{Outcome}
 use Rattle.lines.specs.Lines.{transfer_line, answer_line, fields_line, value_of}
 use Rattle.blocks.specs.Blocks.{lines_of, session_past}
 use Rattle.blocks.specs.Input.{spare_line, text_from, rolltrace_text, rollfields_text}

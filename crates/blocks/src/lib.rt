@@ -1,15 +1,15 @@
 // The lines of a block of records, as one text.
 #![tactic(auto)]
 
-ghost use Rattle.std.specs.Prelude.{◌≡◌, ℕ, List, [], ◌+◌, ◌*◌, ◌≤◌, length};
-ghost use Rattle.reactions.specs.declared.Outcome.{Outcome};
+ghost use Rattle.std.specs.Prelude.{◌≡◌, ℕ, List, [], ◌+◌, ◌≤◌, length};
+ghost use Rattle.session.specs.declared.Outcome.{Outcome};
 ghost use Rattle.lines.specs.Lines.{outcome_line, fields_line};
-ghost use Rattle.lines.specs.Put.{PutLine};
-ghost use Rattle.blocks.specs.Blocks.{OneMore, Printed, Prints};
+ghost use Rattle.lines.specs.Put.{line_room, PutLine};
+ghost use Rattle.blocks.specs.Blocks.{OneMore, text_room, Printed, Prints};
 ghost use Rattle.blocks.specs.Input.{spare_line, after_lines};
 
-use reactions::Outcome;
-use session::Session;
+use lines::LINE_ROOM;
+use session::{Outcome, Session};
 
 // What is printed of a record, and of spare bytes, which are no record, at the end of the input.
 pub trait Show {
@@ -72,7 +72,7 @@ pub struct Printout {
 // One record more: its line goes into the text.
 #[tactic(auto, using(crate::proofs::Texts::kept_session))]
 fn print_record<S: Show>(p: Printout, record: [u8; 8], out: &mut [u8]) -> Printout
-    requires { p.count + 32 ≤ length out.old }
+    requires { p.count + line_room ≤ length out.old }
     ensures { OneMore S.line_of p «record» out.old out.new result }
 {
     let o = records::step(p.session, record);
@@ -83,7 +83,7 @@ fn print_record<S: Show>(p: Printout, record: [u8; 8], out: &mut [u8]) -> Printo
 }
 
 fn print_records<S: Show>(s: Session, bytes: &[u8], out: &mut [u8]) -> Printout
-    requires { 4 * length bytes.now ≤ length out.old }
+    requires { text_room (length bytes.now) ≤ length out.old }
     ensures { Printed S.line_of s bytes.now out.old out.new result }
 {
     let (records, _) = bytes.as_chunks();
@@ -97,13 +97,13 @@ fn print_records<S: Show>(s: Session, bytes: &[u8], out: &mut [u8]) -> Printout
     p
 }
 
-// The lines of the whole records of a block go to the start of the text. Where that has less than four bytes for each byte of the
-// block, nothing is done: the test is part of what is promised of every text.
+// The lines of the whole records of a block go to the start of the text. Where that has not the room of a line for each of them, nothing is
+// done: the test is part of what is promised of every text.
 #[tactic(auto, using(crate::proofs::Texts::printed_fits))]
 pub fn print<S: Show>(s: Session, bytes: &[u8], out: &mut [u8]) -> Printout
     ensures { Prints S.line_of s bytes.now out.old out.new result }
 {
-    if out.len() / 4 < bytes.len() {
+    if out.len() / LINE_ROOM < bytes.len() / 8 {
         return Printout {
             session: s,
             count: 0,

@@ -1,12 +1,12 @@
 -- The measurement timing budget of call 15, and the final range word that call 9 writes.
-use Rattle.std.specs.Prelude.{cond, ℕ, ◌+◌, ◌-◌, ltb, Option, None, Some, Result, Ok, Err}
+use Rattle.std.specs.Prelude.{Bool, cond, ℕ, ◌+◌, ◌-◌, ltb, Option, None, Some, Result, Ok, Err}
 use Rattle.clock.specs.declared.Mclks.{Mclks}
 use Rattle.clock.specs.declared.WideMclks.{WideMclks}
 use Rattle.clock.specs.declared.Microseconds.{Microseconds}
 use Rattle.clock.specs.declared.Place.{Place}
-use Rattle.clock.specs.Clock.{encoded_timeout, microseconds_to_mclks, cut_mclks}
+use Rattle.clock.specs.Clock.{encoded_timeout, cut_mclks}
 use Rattle.timing.specs.declared.TimingRegisters.{TimingRegisters}
-use Rattle.timing.specs.Timeouts.{pre_share, period_clocks}
+use Rattle.timing.specs.Timeouts.{step_clocks, pre_share}
 use Rattle.timing.specs.Places.{first_place}
 use Rattle.budget.specs.declared.DssTerm.{DssTerm}
 use Rattle.budget.specs.declared.NoWord.{NoWord}
@@ -37,7 +37,7 @@ word_of_clocks (Ok n) r = word_of_sum (with_pre n (pre_share r))
 unfoldable pub word_within : TimingRegisters → Microseconds → Microseconds → Result ℕ NoWord
 word_within r budget used =
     cond (ltb budget.0 used.0) (Err NoWord.NoTime)
-    (word_of_clocks (microseconds_to_mclks (record { 0 = budget.0 - used.0 }) (period_clocks r.finalperiod)) r)
+    (word_of_clocks (step_clocks (record { 0 = budget.0 - used.0 }) r.finalperiod) r)
 
 -- a place, or what the time left gives. lib.rs 779
 abbrev pub word_after : Option Place → TimingRegisters → Microseconds → DssTerm → Result ℕ NoWord
@@ -47,3 +47,12 @@ word_after None r budget dss = word_within r budget (used_sum r dss)
 -- lib.rs: set_measurement_timing_budget after its first test
 unfoldable pub final_range_word : TimingRegisters → Microseconds → DssTerm → Result ℕ NoWord
 final_range_word r budget dss = word_after (first_place r 6) r budget dss
+
+-- SCOPE 5.5: a budget below 20,000 is answer 1. lib.rs 746
+abbrev pub too_short : ℕ → Bool
+too_short budget = ltb budget 20000
+
+-- lib.rs: set_measurement_timing_budget on these replies: the word that it writes, or why there is none.
+-- The test comes before any transfer, and so before any place of the replies
+unfoldable pub set_budget : TimingRegisters → Microseconds → DssTerm → Result ℕ NoWord
+set_budget r budget dss = cond (too_short budget.0) (Err NoWord.NoTime) (final_range_word r budget dss)

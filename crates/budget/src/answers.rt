@@ -1,11 +1,12 @@
-// Call 15's value and call 9's word: the first place of the replies, or what the sums give.
+// Call 15's value and call 9's answer: the first place of the replies, or what the sums give.
 ghost use Rattle.std.specs.Prelude.{◌≡◌};
 ghost use Rattle.budget.specs.Budget.{measurement_timing_budget, with_pre, word_of_sum, final_range_word};
+ghost use Rattle.budget.specs.Budget.{set_budget};
 
 use crate::sums::{budget_sum, used_sum};
 use crate::{DssTerm, NoWord};
 use clock::{Mclks, Microseconds, Place, WideMclks};
-use timing::{TimingRegisters, first_place, period_clocks, pre_share};
+use timing::{TimingRegisters, first_place, pre_share};
 
 // Call 15: the first place, or the measurement timing budget that the replies amount to.
 #[tactic(auto, unfolding(crate::specs::Budget::measurement_timing_budget))]
@@ -55,6 +56,18 @@ pub fn final_range_word(
         return Err(NoWord::NoTime);
     }
     let left = Microseconds(budget.0 - used.0);
-    let clocks = clock::timeout_microseconds_to_mclks(left, period_clocks(r.finalperiod))?;
+    let clocks = timing::step_clocks(left, r.finalperiod)?;
     word_of_sum(with_pre(clocks, pre_share(r)))
+}
+
+// Call 9 whole: a budget below 20,000 is refused before any reply is looked at.
+#[tactic(auto, unfolding(crate::specs::Budget::set_budget))]
+pub fn set_budget(r: TimingRegisters, budget: Microseconds, dss: DssTerm) -> Result<u16, NoWord>
+    ensures { result ≡ set_budget r budget dss }
+{
+    if budget.0 < 20000 {
+        Err(NoWord::NoTime)
+    } else {
+        final_range_word(r, budget, dss)
+    }
 }

@@ -8,7 +8,7 @@ mod sums;
 ghost use Rattle.std.specs.Prelude.{◌≡◌};
 ghost use Rattle.budget.specs.declared.NoWord.TheVariants.{Panic};
 
-pub use answers::{final_range_word, measurement_timing_budget};
+pub use answers::{final_range_word, measurement_timing_budget, set_budget};
 use clock::Place;
 
 // How often the DSS overhead is counted: twice by call 15, once by call 9.
@@ -18,7 +18,8 @@ pub enum DssTerm {
     Once,
 }
 
-// Why call 9 has no word to write: no time is left for the final range (answer 1), or a place.
+// Why call 9 has no word to write: a budget below 20,000 or no time left for the final range (both
+// answer 1), or a place.
 #[derive(Clone, Copy, Debug, PartialEq, Eq)]
 pub enum NoWord {
     NoTime,

@@ -1,12 +1,13 @@
 -- Parts of the lists of instructions, as the code has them. That they make up the calls is proved.
 use Rattle.std.specs.Prelude.{List, [], ◌∷◌, ◌++◌, ℕ, get_or}
 use Rattle.session.specs.declared.Instruction.{Instruction}
+use Rattle.session.specs.declared.Setting.{Setting}
 use Rattle.session.specs.Instructions.{mask_slot, stop_slot, second_slot}
 use Rattle.session.specs.Calls.{rows, budget_reads, budget_steps, gpio_steps, calibration, tuning, spad_steps}
 
 -- lib.rs: set_measurement_timing_budget after its first five reads
-abbrev pub budget_write : ℕ → List Instruction
-budget_write k = Instruction.ReadLast k ∷ Instruction.WriteWord k ∷ []
+abbrev pub budget_write : ℕ → Setting → List Instruction
+budget_write k x = Instruction.ReadLast k x ∷ Instruction.WriteWord k x ∷ []
 
 -- lib.rs: set_gpio_config without its clearing
 abbrev pub gpio_writes : Instruction → Instruction → List Instruction
@@ -22,7 +23,7 @@ from_gpio =
     gpio_steps (Instruction.Write 0x0A 0x04) (Instruction.WriteAnd 0x84 0xEF)
     ++ budget_reads
     ++ Instruction.WriteSteps
-    ∷ budget_steps second_slot
+    ∷ budget_steps second_slot Setting.Found
     ++ stage 0x01 0x41
     ++ stage 0x02 0x01
     ++ Instruction.Write 0x01 0xE8

@@ -4,9 +4,9 @@ ghost use Rattle.session.specs.Calls.{bring_up_steps};
 ghost use Rattle.calls.specs.Calls.{step_of};
 ghost use Rattle.calls.specs.Parts.{stage, from_gpio, from_tuning};
 
-use crate::sections::{CLEARING, LAST_TIMING, budget_write, gpio_writes, in_order, timing_reads};
+use crate::sections::{CLEARING, budget_write, gpio_writes, in_order, timing_reads};
 use crate::tuning::load_tuning_settings;
-use session::{Instruction, SECOND_SLOT, TIMING_SLOT};
+use session::{Condition, Instruction, SECOND_SLOT, Setting, TIMING_SLOT};
 
 // Identity, 2V8 mode, standard I2C mode and the stop byte, limit checks, signal rate limit.
 const OPENING: [Instruction; 15] = [
@@ -40,7 +40,7 @@ const SPAD_INFO: [Instruction; 22] = [
     Instruction::Write(0x80, 0x01),
     Instruction::Write(0x94, 0x6B),
     Instruction::Write(0x83, 0x00),
-    Instruction::AwaitDetector,
+    Instruction::Await(Condition::DetectorReady),
     Instruction::Write(0x83, 0x01),
     Instruction::Read(0x92, 3),
     Instruction::Write(0x81, 0x00),
@@ -71,7 +71,7 @@ fn stage(sequence: u8, byte: u8) -> [Instruction; 6]
     [
         Instruction::Write(0x01, sequence),
         Instruction::Write(0x00, byte),
-        Instruction::AwaitStatus,
+        Instruction::Await(Condition::StatusReady),
         CLEARING[0],
         CLEARING[1],
         Instruction::Write(0x00, 0x00),
@@ -90,9 +90,9 @@ fn from_gpio(step: u8) -> Instruction
             ),
             &CLEARING,
             &timing_reads(TIMING_SLOT),
-            &[LAST_TIMING, Instruction::WriteSteps],
+            &[Instruction::FindBudget, Instruction::WriteSteps],
             &timing_reads(SECOND_SLOT),
-            &budget_write(SECOND_SLOT),
+            &budget_write(SECOND_SLOT, Setting::Found),
             &stage(0x01, 0x41),
             &stage(0x02, 0x01),
             &[Instruction::Write(0x01, 0xE8)],

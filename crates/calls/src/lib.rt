@@ -1,4 +1,4 @@
-// The instructions of every call, in the order of lib.rs, as constant tables: one for each call or section of one.
+// What is known of each call: its instructions, in the order of lib.rs, as constant tables, one for each call or section of one, and its limits.
 // A sequence that several calls share stands once.
 #![tactic(auto)]
 
@@ -7,99 +7,86 @@ mod sections;
 mod tables;
 mod tuning;
 
-ghost use Rattle.std.specs.Prelude.{◌≡◌};
-ghost use Rattle.calls.specs.Calls.{call_of, program_for, step_of, instruction_at, steps_in};
+ghost use Rattle.std.specs.Prelude.{◌≡◌, ◌&&◌, leb};
+ghost use Rattle.session.specs.Calls.{top_code};
+ghost use Rattle.calls.specs.Calls.{facts_of, instruction_at};
 
 use sections::looked_up;
 use session::Instruction;
 
-// The calls, by the names of lib.rs; `Nothing` for codes that are none.
-// It stays a variant: public functions take every Call, and an Option beside it would ask more of their callers.
+// How many instructions a call has, the greatest A and B that it takes, and the most transfers that it makes.
 #[derive(Clone, Copy)]
-pub enum Call {
-    Nothing,
-    WithAddress,
-    WhoAmI,
-    SetAddress,
-    StartContinuous,
-    StopContinuous,
-    ReadRangeMm,
-    ReadRangeContinuous,
-    ReadRangeSingle,
-    SetBudget,
-    SetThresholds,
-    GetThresholds,
-    SetGpioConfig,
-    ClearInterruptStatus,
-    SetSignalRateLimit,
-    GetBudget,
+pub struct Facts {
+    pub steps: u8,
+    pub greatest_a: u32,
+    pub greatest_b: u16,
+    pub ceiling: u32,
 }
 
-// By code: the call, and how many instructions it has.
-const CALLS: [(Call, u8); 16] = [
-    (Call::Nothing, 0),
-    (Call::WithAddress, 156),
-    (Call::WhoAmI, 1),
-    (Call::SetAddress, 1),
-    (Call::StartContinuous, 10),
-    (Call::StopContinuous, 6),
-    (Call::ReadRangeMm, 4),
-    (Call::ReadRangeContinuous, 4),
-    (Call::ReadRangeSingle, 13),
-    (Call::SetBudget, 7),
-    (Call::SetThresholds, 2),
-    (Call::GetThresholds, 2),
-    (Call::SetGpioConfig, 5),
-    (Call::ClearInterruptStatus, 2),
-    (Call::SetSignalRateLimit, 1),
-    (Call::GetBudget, 6),
+// These by code, in this order. 0 is no call's.
+const FACTS: [(u8, u32, u16, u32); 16] = [
+    (0, 0, 0, 0),
+    (156, 255, 0, 85688),
+    (1, 0, 0, 1),
+    (1, 255, 0, 1),
+    (10, 4294967295, 0, 10),
+    (6, 0, 0, 6),
+    (4, 0, 0, 4),
+    (4, 0, 0, 10003),
+    (13, 0, 0, 20011),
+    (7, 4294967295, 0, 7),
+    (2, 65535, 65535, 2),
+    (2, 0, 0, 2),
+    (5, 3, 1, 5),
+    (2, 0, 0, 2),
+    (1, 4294967295, 0, 1),
+    (6, 0, 0, 6),
 ];
 
-const NO_CALL: (Call, u8) = (Call::Nothing, 0);
-
-// A function and no `From`: a code that is no call has a Call too.
-pub fn call_of(code: u8) -> Call
-    ensures { result ≡ call_of code }
+// A code that is no call's has no instructions, and takes nothing.
+#[tactic(auto, unfolding(crate::specs::Calls::facts_of))]
+pub fn facts_of(code: u8) -> Facts
+    ensures { result ≡ facts_of code }
 {
-    looked_up(&CALLS, code, NO_CALL).0
-}
-
-// The instruction of a call at a step. A match and no table of functions: each call's own contract stands at its arm.
-#[tactic(auto, unfolding(crate::specs::Calls::program_for, crate::specs::Calls::step_of))]
-fn step_of(call: Call, step: u8) -> Instruction
-    ensures { result ≡ step_of (program_for call).steps step }
-{
-    match call {
-        Call::Nothing => Instruction::Nowhere,
-        Call::WithAddress => bring_up::with_address(step),
-        Call::WhoAmI => tables::who_am_i(step),
-        Call::SetAddress => tables::set_address(step),
-        Call::StartContinuous => tables::start_continuous(step),
-        Call::StopContinuous => tables::stop_continuous(step),
-        Call::ReadRangeMm => tables::read_range_mm(step),
-        Call::ReadRangeContinuous => tables::read_range_continuous(step),
-        Call::ReadRangeSingle => tables::read_range_single(step),
-        Call::SetBudget => tables::set_budget(step),
-        Call::SetThresholds => tables::set_thresholds(step),
-        Call::GetThresholds => tables::get_thresholds(step),
-        Call::SetGpioConfig => tables::set_gpio_config(step),
-        Call::ClearInterruptStatus => tables::clear_interrupt_status(step),
-        Call::SetSignalRateLimit => tables::set_signal_rate_limit(step),
-        Call::GetBudget => tables::get_budget(step),
+    let (steps, greatest_a, greatest_b, ceiling) = looked_up(&FACTS, code, (0, 0, 0, 0));
+    Facts {
+        steps,
+        greatest_a,
+        greatest_b,
+        ceiling,
     }
 }
 
-// How many instructions the call with this code has.
-pub fn steps_in(code: u8) -> u8
-    ensures { result ≡ steps_in code }
+// Is there a call with this code?
+#[tactic(auto, unfolding(session::specs::Calls::programs))]
+pub fn is_call(code: u8) -> bool
+    ensures { result ≡ leb 1 code && leb code top_code }
 {
-    looked_up(&CALLS, code, NO_CALL).1
+    1 <= code && (code as usize) < FACTS.len()
 }
 
-// The instruction of the call with this code at a step; past the call's end, or for a code that is no call, there is none.
-#[tactic(auto, using(crate::proofs::Programs::at_code))]
+// The instruction of the call with this code at a step; past the call's end, or for a code that is no call's, there is none.
+// A match and no table of functions: each call's own contract stands at its arm.
+#[tactic(auto, unfolding(crate::specs::Calls::instruction_at, crate::specs::Calls::step_of, session::specs::Calls::program_of, session::specs::Calls::programs))]
 pub fn instruction_at(code: u8, step: u8) -> Instruction
     ensures { result ≡ instruction_at code step }
 {
-    step_of(call_of(code), step)
+    match code {
+        1 => bring_up::with_address(step),
+        2 => tables::who_am_i(step),
+        3 => tables::set_address(step),
+        4 => tables::start_continuous(step),
+        5 => tables::stop_continuous(step),
+        6 => tables::read_range_mm(step),
+        7 => tables::read_range_continuous(step),
+        8 => tables::read_range_single(step),
+        9 => tables::set_budget(step),
+        10 => tables::set_thresholds(step),
+        11 => tables::get_thresholds(step),
+        12 => tables::set_gpio_config(step),
+        13 => tables::clear_interrupt_status(step),
+        14 => tables::set_signal_rate_limit(step),
+        15 => tables::get_budget(step),
+        _ => Instruction::Nowhere,
+    }
 }

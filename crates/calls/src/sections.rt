@@ -5,7 +5,7 @@ ghost use Rattle.session.specs.Calls.{timing_reads};
 ghost use Rattle.calls.specs.Calls.{step_of};
 ghost use Rattle.calls.specs.Parts.{budget_write, gpio_writes};
 
-use session::{Instruction, TIMING_SLOT};
+use session::{Instruction, Setting};
 
 // What a table has at an index; past its end, `past`.
 pub(crate) fn looked_up<T: Copy>(table: &[T], i: u8, past: T) -> T
@@ -67,15 +67,18 @@ pub(crate) fn timing_reads(slot: u8) -> [Instruction; 5]
     ]
 }
 
-// The last read of get_measurement_timing_budget.
-pub(crate) const LAST_TIMING: Instruction = Instruction::ReadTiming(6, TIMING_SLOT);
-
 // set_measurement_timing_budget after the first five reads
-pub(crate) fn budget_write(slot: u8) -> [Instruction; 2]
-    ensures { result ≡ budget_write slot }
+pub(crate) fn budget_write(slot: u8, setting: Setting) -> [Instruction; 2]
+    ensures { result ≡ budget_write slot setting }
 {
-    [Instruction::ReadLast(slot), Instruction::WriteWord(slot)]
+    [
+        Instruction::ReadLast(slot, setting),
+        Instruction::WriteWord(slot, setting),
+    ]
 }
+
+// The range read of calls 6, 7 and 8.
+pub(crate) const READ_RANGE: Instruction = Instruction::ReadRange(0x1E, 2, 4, 0);
 
 // set_gpio_config without its clearing
 pub(crate) fn gpio_writes(function: Instruction, polarity: Instruction) -> [Instruction; 3]

@@ -4,9 +4,9 @@ ghost use Rattle.session.specs.Calls.{who_am_i_call, set_address_call, start_con
 ghost use Rattle.calls.specs.Calls.{step_of};
 
 use crate::sections::{
-    CLEARING, LAST_TIMING, PREPARATION, budget_write, gpio_writes, in_order, row, timing_reads,
+    CLEARING, PREPARATION, READ_RANGE, budget_write, gpio_writes, in_order, row, timing_reads,
 };
-use session::{Instruction, TIMING_SLOT};
+use session::{Condition, Instruction, Setting, TIMING_SLOT};
 
 pub(crate) fn who_am_i(step: u8) -> Instruction
     ensures { result ≡ step_of who_am_i_call.steps step }
@@ -51,17 +51,11 @@ pub(crate) fn stop_continuous(step: u8) -> Instruction
 pub(crate) fn read_range_mm(step: u8) -> Instruction
     ensures { result ≡ step_of read_range_mm_call.steps step }
 {
-    in_order(
-        &[
-            &[Instruction::ReadStatus, Instruction::ReadRange],
-            &CLEARING,
-        ],
-        step,
-    )
+    in_order(&[&[Instruction::ReadStatus, READ_RANGE], &CLEARING], step)
 }
 
 // A wait for a range, and its read.
-const AWAITED: [Instruction; 2] = [Instruction::AwaitStatus, Instruction::ReadRange];
+const AWAITED: [Instruction; 2] = [Instruction::Await(Condition::StatusReady), READ_RANGE];
 
 pub(crate) fn read_range_continuous(step: u8) -> Instruction
     ensures { result ≡ step_of read_range_continuous_call.steps step }
@@ -73,7 +67,7 @@ pub(crate) fn read_range_continuous(step: u8) -> Instruction
 const SINGLE: [Instruction; 3] = [
     Instruction::Write(0x80, 0x00),
     Instruction::Write(0x00, 0x01),
-    Instruction::AwaitStart,
+    Instruction::Await(Condition::Started),
 ];
 
 pub(crate) fn read_range_single(step: u8) -> Instruction
@@ -86,7 +80,10 @@ pub(crate) fn set_budget(step: u8) -> Instruction
     ensures { result ≡ step_of set_budget_call.steps step }
 {
     in_order(
-        &[&timing_reads(TIMING_SLOT), &budget_write(TIMING_SLOT)],
+        &[
+            &timing_reads(TIMING_SLOT),
+            &budget_write(TIMING_SLOT, Setting::Asked),
+        ],
         step,
     )
 }
@@ -136,5 +133,8 @@ pub(crate) fn set_signal_rate_limit(step: u8) -> Instruction
 pub(crate) fn get_budget(step: u8) -> Instruction
     ensures { result ≡ step_of get_budget_call.steps step }
 {
-    in_order(&[&timing_reads(TIMING_SLOT), &[LAST_TIMING]], step)
+    in_order(
+        &[&timing_reads(TIMING_SLOT), &[Instruction::FindBudget]],
+        step,
+    )
 }

@@ -1,82 +1,51 @@
-// Answers 15, 13 and 12: is a session well formed, are arguments in range, does a reply have stray bytes? And a small test that others need too.
+// Answers 15, 13 and 12: is a session well formed, are arguments in range, does a reply have stray bytes?
 #![tactic(auto)]
 
-ghost use Rattle.std.specs.Prelude.{◌≡◌, not, ◌+◌, ◌==◌, leb, drop};
+ghost use Rattle.std.specs.Prelude.{◌≡◌, not, ◌==◌, drop};
 ghost use Rattle.std.specs.List.{list_any};
-ghost use Rattle.session.specs.Bus.{clean_from};
+ghost use Rattle.session.specs.Bus.{clean_from, wait_limit};
 ghost use Rattle.session.specs.Calls.{arguments_ok};
 ghost use Rattle.session.specs.Machine.{all_zero, up_wrong, ill_formed};
-ghost use Rattle.checks.specs.Sound.{limit_of, limits_of, idle_at_step, malformed_at, ill_formed_at, stray_in};
+ghost use Rattle.checks.specs.Sound.{idle_bad, idle_at_step, malformed_at, ill_formed_at, stray_in};
 
-use session::{CallRecord, ReplyRecord, Session, WITH_ADDRESS};
-use steps::Kind;
+use session::{CallRecord, Condition, ReplyRecord, Session, WITH_ADDRESS};
+use shapes::Kind;
 
-// Are there n places from `at` on? No method says it of a length alone.
-pub fn has_room(length: usize, at: usize, n: usize) -> bool
-    ensures { result ≡ leb (at + n) length }
-{
-    n <= length && at <= length - n
-}
-
-// The greatest A and B that a call takes, and the most transfers that it makes.
-#[derive(Clone, Copy)]
-struct Limits(u32, u16, u32);
-
-// By code.
-const LIMITS: [Limits; 16] = [
-    Limits(0, 0, 0),
-    Limits(255, 0, 85688),
-    Limits(0, 0, 1),
-    Limits(255, 0, 1),
-    Limits(4294967295, 0, 10),
-    Limits(0, 0, 6),
-    Limits(0, 0, 4),
-    Limits(0, 0, 10003),
-    Limits(0, 0, 20011),
-    Limits(4294967295, 0, 7),
-    Limits(65535, 65535, 2),
-    Limits(0, 0, 2),
-    Limits(3, 1, 5),
-    Limits(0, 0, 2),
-    Limits(4294967295, 0, 1),
-    Limits(0, 0, 6),
-];
-
-fn limits_of(code: u8) -> Limits
-    ensures { result ≡ limits_of code }
-{
-    LIMITS
-        .get(code as usize)
-        .copied()
-        .unwrap_or(Limits(0, 0, 0))
-}
-
-#[tactic(auto, unfolding(session::specs::Calls::arguments_ok, crate::specs::Sound::limits_of, crate::specs::Sound::greatest_a, crate::specs::Sound::greatest_b))]
+#[tactic(auto, unfolding(session::specs::Calls::arguments_ok, calls::specs::Calls::facts_of))]
 pub fn arguments_ok(call: CallRecord) -> bool
     ensures { result ≡ arguments_ok call.code call.a call.b }
 {
-    let Limits(a, b, _) = limits_of(call.code);
-    (1 <= call.code && call.code <= 15) && (call.a <= a && call.b <= b)
+    let facts = calls::facts_of(call.code);
+    calls::is_call(call.code) && (call.a <= facts.greatest_a && call.b <= facts.greatest_b)
 }
 
-#[tactic(auto, unfolding(crate::specs::Sound::limit_of))]
-pub fn limit_of(code: u8, kind: Kind) -> u32
-    ensures { result ≡ limit_of code kind }
+// By the call's code too: a call may have limits of its own.
+pub fn wait_limit(code: u8, condition: Condition) -> u32
+    ensures { result ≡ wait_limit code condition }
+{
+    match condition {
+        Condition::DetectorReady => 65535,
+        Condition::StatusReady | Condition::Started => 10000,
+    }
+}
+
+// Idle reads: below the limit in a wait, none outside.
+#[tactic(auto, unfolding(crate::specs::Sound::idle_bad))]
+fn idle_bad(code: u8, kind: Kind, idle: u32) -> bool
+    ensures { result ≡ idle_bad code kind idle }
 {
     match kind {
-        Kind::Detector => 65535,
-        Kind::Status => 10000,
-        Kind::Start => 10000,
-        Kind::Write | Kind::Read | Kind::Range => 1,
+        Kind::Wait(condition) => wait_limit(code, condition) <= idle,
+        Kind::Write | Kind::Read | Kind::Range => idle != 0,
     }
 }
 
 // A step that is not of its call, or too many idle reads for an instruction of a kind.
-#[tactic(auto, unfolding(crate::specs::Sound::idle_at_step))]
+#[tactic(auto, unfolding(crate::specs::Sound::idle_at_step, calls::specs::Calls::facts_of))]
 fn idle_at(s: Session, kind: Kind) -> bool
     ensures { result ≡ idle_at_step s.code s.step kind s.idle }
 {
-    calls::steps_in(s.code) <= s.step || limit_of(s.code, kind) <= s.idle
+    calls::facts_of(s.code).steps <= s.step || idle_bad(s.code, kind, s.idle)
 }
 
 // Unlike `not_up` of crate driver it also refuses a bring-up of a sensor that is up.
@@ -86,7 +55,7 @@ fn up_wrong(code: u8, up: bool) -> bool
     if code == WITH_ADDRESS { up } else { !up }
 }
 
-#[tactic(auto, unfolding(crate::specs::Sound::limits_of, crate::specs::Sound::malformed_at))]
+#[tactic(auto, unfolding(crate::specs::Sound::malformed_at, session::specs::Calls::ceiling_of, calls::specs::Calls::facts_of))]
 fn malformed_at(s: Session, kind: Kind) -> bool
     ensures { result ≡ malformed_at kind s }
 {
@@ -95,12 +64,11 @@ fn malformed_at(s: Session, kind: Kind) -> bool
         a: s.a,
         b: s.b,
     };
-    let Limits(_, _, ceiling) = limits_of(s.code);
     !arguments_ok(call)
         || up_wrong(s.code, s.driver.up)
         || idle_at(s, kind)
         || s.transfers == 0
-        || ceiling < s.transfers
+        || calls::facts_of(s.code).ceiling < s.transfers
 }
 
 // Answer 15 (SCOPE 9.2): the session says that a call waits, and is no session that waits in it. Whoever has looked up the instruction that
@@ -117,7 +85,7 @@ pub fn ill_formed(s: Session) -> bool
 {
     ill_formed_at(
         s,
-        steps::shape_of(calls::instruction_at(s.code, s.step)).kind,
+        shapes::shape_of(calls::instruction_at(s.code, s.step)).kind,
     )
 }
 

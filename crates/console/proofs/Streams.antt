@@ -10,7 +10,7 @@ use Rattle.std.proofs.Transfers.{starts_with_of_append, starts_with_trans}
 use Rattle.records.proofs.Turns.{tail}
 use Rattle.session.specs.declared.Session.{Session}
 use Rattle.session.specs.Records.{records_of}
-use Rattle.reactions.specs.declared.Outcome.{Outcome}
+use Rattle.session.specs.declared.Outcome.{Outcome}
 use Rattle.blocks.specs.Blocks.{lines_of, session_past}
 use Rattle.blocks.specs.Input.{after_lines, text_from}
 use Rattle.blocks.specs.Laws.{whole_part}

@@ -5,7 +5,7 @@ use Rattle.std.specs.Io.{StartsWith}
 use Rattle.std.specs.Io.KnownBytes.{Appends, Consumes, IsAtEnd}
 use Rattle.session.specs.declared.Session.{Session}
 use Rattle.session.specs.Records.{records_of}
-use Rattle.reactions.specs.declared.Outcome.{Outcome}
+use Rattle.session.specs.declared.Outcome.{Outcome}
 use Rattle.blocks.specs.Blocks.{lines_of, session_past}
 use Rattle.blocks.specs.Input.{text_from}
 use Rattle.blocks.specs.Laws.{whole_part}

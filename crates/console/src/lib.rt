@@ -7,13 +7,14 @@ ghost use Rattle.std.specs.Prelude.{◌≡◌, ℕ, ◌+◌, ◌*◌, ◌%◌, �
 ghost use Rattle.std.specs.Io.KnownBytes.{Keeps, Consumes, IsAtEnd};
 ghost use Rattle.session.specs.Machine.{fresh_session};
 ghost use Rattle.session.specs.Records.{records_of};
-ghost use Rattle.blocks.specs.Blocks.{lines_of, session_past};
+ghost use Rattle.blocks.specs.Blocks.{lines_of, session_past, text_room};
 ghost use Rattle.blocks.specs.Input.{text_from};
 ghost use Rattle.console.specs.Streams.{Writes, Fills, PrintsBlock, PrintsInput};
 
 pub use crate::failure::Failure;
 use crate::failure::{too_many_turns, wants_another_try};
 use blocks::Show;
+use lines::LINE_ROOM;
 use session::Session;
 use std::io;
 use std::io::{Error, ErrorKind, Read, Write};
@@ -93,7 +94,7 @@ fn put_lines<S: Show, W: Write, C: Clock>(
     text: &mut [u8],
     clock: &C,
 ) -> Result<Session, Failure>
-    requires { 4 * length bytes.now ≤ length text.old }
+    requires { text_room (length bytes.now) ≤ length text.old }
     ensures size { length text.new ≡ length text.old }
     ensures lines { Writes (lines_of S.line_of s (records_of bytes.now)) (W.contents writer.old) (W.contents writer.new) result }
     ensures session { IfOk result (λ t. t ≡ session_past s (records_of bytes.now)) }
@@ -115,7 +116,7 @@ fn print_block<S: Show, R: Read, W: Write, C: Clock>(
 ) -> Result<Option<Session>, Failure>
     requires eights { length block.old % 8 ≡ 0 }
     requires some { 0 < length block.old }
-    requires room { 4 * length block.old ≤ length text.old }
+    requires room { text_room (length block.old) ≤ length text.old }
     ensures block { length block.new ≡ length block.old }
     ensures text { length text.new ≡ length text.old }
     ensures prints { PrintsBlock S.line_of S.spare s (R.remaining reader.old) (R.remaining reader.new) (W.contents writer.old) (W.contents writer.new) result }
@@ -140,7 +141,7 @@ fn print_blocks<S: Show, R: Read, W: Write, C: Clock>(
 ) -> Result<(), Failure>
     requires eights { length block.old % 8 ≡ 0 }
     requires some { 0 < length block.old }
-    requires room { 4 * length block.old ≤ length text.old }
+    requires room { text_room (length block.old) ≤ length text.old }
     ensures { PrintsInput (text_from S.line_of S.spare fresh_session) (R.remaining reader.old) (R.remaining reader.new) (W.contents writer.old) (W.contents writer.new) result }
 {
     let mut s = driver::fresh();
@@ -153,7 +154,11 @@ fn print_blocks<S: Show, R: Read, W: Write, C: Clock>(
     Err(Failure::Read(too_many_turns()))
 }
 
-// A block is a quarter of the text, so that the lines of its records fit. Arrays of one size, since memory is fixed.
+// Records are read block by block, and the text has room for the lines of a block. Arrays of one size, since memory is fixed.
+const BLOCK_SIZE: usize = 16384;
+
+const TEXT_SIZE: usize = BLOCK_SIZE / 8 * LINE_ROOM;
+
 pub fn run<S: Show, R: Read, W: Write, C: Clock>(
     reader: &mut R,
     writer: &mut W,
@@ -161,7 +166,7 @@ pub fn run<S: Show, R: Read, W: Write, C: Clock>(
 ) -> Result<(), Failure>
     ensures { PrintsInput (text_from S.line_of S.spare fresh_session) (R.remaining reader.old) (R.remaining reader.new) (W.contents writer.old) (W.contents writer.new) result }
 {
-    let mut block = [0u8; 16384];
-    let mut text = [0u8; 65536];
+    let mut block = [0u8; BLOCK_SIZE];
+    let mut text = [0u8; TEXT_SIZE];
     print_blocks::<S, R, W, C>(reader, writer, &mut block, &mut text, clock)
 }

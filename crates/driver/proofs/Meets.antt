@@ -2,7 +2,7 @@
 use mathlib.Core.Path.{◌≡◌, refl, sym, ◌∙◌, subst}
 use mathlib.Core.Bool.{Bool, true, false, cond}
 use mathlib.Core.List.{List}
-use Prim.Native.Nat.{ℕ, zero, suc, ◌≤◌}
+use Prim.Native.Nat.{ℕ, zero, suc}
 use native.Mathlib.Omega.{arith}
 use borrow.Author.Tests.{ne_eqb}
 use Rattle.session.specs.declared.Instruction.{Instruction}
@@ -11,41 +11,39 @@ use Rattle.session.specs.declared.Transfer.{Transfer}
 use Rattle.session.specs.declared.Answer.{Answer}
 use Rattle.session.specs.Instructions.{Context, Op, write, read, wait, range, send_of}
 use Rattle.session.specs.Steps.{op_of}
-use Rattle.session.specs.Calls.{arguments_ok, program_of}
-use Rattle.session.proofs.Facts.{both}
+use Rattle.session.specs.Calls.{program_of}
+use Rattle.ground.proofs.Facts.{both}
 use Rattle.std.specs.Prelude.{None, Some}
 use Rattle.session.specs.Machine.{refused, broken, react, to_reply, context_of, stray, waits_now, malformed, ill_formed, begun, reply_def}
-use Rattle.calls.specs.Calls.{call_of, program_for, instruction_at}
-use Rattle.calls.proofs.Programs.{program_named}
-use Rattle.steps.specs.declared.Shape.{Shape}
-use Rattle.steps.specs.Steps.{shape_of, settled, most_at}
+use Rattle.calls.specs.Calls.{instruction_at, steps_in}
+use Rattle.shapes.specs.declared.Shape.{Shape}
+use Rattle.shapes.specs.Shapes.{shape_of, settled}
 use Rattle.checks.specs.Sound.{Sound, ill_formed_at, stray_in}
-use Rattle.reactions.specs.Reactions.{way_of, plan_of, acting}
+use Rattle.reactions.specs.Reactions.{move_of, action_of, acting}
 use Rattle.reactions.proofs.Meets.{goes_by}
 use Rattle.driver.specs.Replies.{launching, outstanding_of}
-use Rattle.checks.proofs.Places.{ill_is, at_step, step_sound, written_fits, arguments_sound, well_formed}
-use Rattle.reactions.specs.Standing.{Ready}
+use Rattle.checks.proofs.Places.{ill_is, at_step, step_sound}
 
 -- what the arguments of a call decide
-pub launches : (s : Session) → acting (plan_of (way_of (settled ((program_for (call_of s.code)).entry (context_of s))) 0 0) Instruction.Nowhere s) s ≡ launching s
+pub launches : (s : Session) → acting (action_of (move_of (settled ((program_of s.code).entry (context_of s))) (steps_in s.code) 0) Instruction.Nowhere s) s ≡ launching s
 unfolding launching
-launches s = goes_by ((program_for (call_of s.code)).entry (context_of s)) 0 0 Instruction.Nowhere s ∙ sym (rw (program_named s.code) refl)
+launches s = goes_by ((program_of s.code).entry (context_of s)) (steps_in s.code) 0 Instruction.Nowhere s
 
 -- the bytes of a reply, by the read length of the shape
 reads_of : (op : Op) (c : Context) → (send_of op c).reads ≡ (shape_of op).reads
 unfolding shape_of
 reads_of (write reg bytes len over after) c = refl
-reads_of (read reg len slot over after) c = refl
+reads_of (read reg len slot finds over after) c = refl
 reads_of (wait x) c = refl
-reads_of range c = refl
+reads_of (range reg len slot over) c = refl
 
 stray_is : (t : Transfer) (f : ℕ) (bs : List ℕ) → stray t f bs ≡ stray_in t.reads f bs
 unfolding stray stray_in
 stray_is t zero bs = refl
 stray_is t (suc e) bs = refl
 
-pub sound_begun : (s : Session) (code a b : ℕ) (r : Session) → arguments_ok code a b ≡ true → r ≡ begun s code a b → Sound r
-sound_begun s code a b r h e = subst Sound (sym e) (record { arguments = h; transfers = omega arith })
+pub sound_begun : (s : Session) (code a b : ℕ) (r : Session) → r ≡ begun s code a b → Sound r
+sound_begun s code a b r e = subst Sound (sym e) (record { transfers = omega arith })
 
 -- 15, and what is left where it is not given
 waits : (s : Session) → (s.code ≡ 0 → ⊥) → waits_now s ≡ true
@@ -73,14 +71,6 @@ module _ (s : Session) (i : Instruction) (x : Shape) (i_is : i ≡ instruction_a
       (rw (stray_is (send_of (op_of (instruction_at s.code s.step)) (context_of s)) f bs)
       (rw (reads_of (op_of (instruction_at s.code s.step)) (context_of s))
       (rw (e, x_is, i_is) refl)))))
-
--- what is known where a session waits at an instruction
-pub ready_at : (s : Session) (i : Instruction) → i ≡ instruction_at s.code s.step → malformed s ≡ false → Ready i s
-ready_at s i e h =
-    record {
-      sound = well_formed s h;
-      fits = subst (λ (k : Instruction). s.a ≤ most_at k) (sym e) (written_fits s.code s.a s.b (arguments_sound s h) s.step);
-    }
 
 -- the transfer that is out
 pub out_ill : (s : Session) → ill_formed s ≡ true → None ≡ outstanding_of s

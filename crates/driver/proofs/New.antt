@@ -1,7 +1,8 @@
 -- `new` of lib.rs is the bring-up of demand 2 at its own address.
 use mathlib.Core.Path.{refl, ap, ◌∙◌}
 use Rattle.session.specs.Calls.{default_address}
-use Rattle.session.specs.Records.{step_def}
+use Rattle.session.specs.History.{step_def}
+use Rattle.session.specs.Refusals.{call_rows}
 use Rattle.session.specs.Script.{play}
 use Rattle.session.specs.Claim2.{bring_up}
 use Rattle.session.proofs.Demand2.{demand_2}
@@ -9,7 +10,7 @@ use Rattle.session.proofs.Bench.{new_is_call_1}
 use Rattle.driver.specs.New.{BeginsNew}
 
 pub begins_new : BeginsNew
-unfolding step_def
+unfolding step_def call_rows
 begins_new s none replies =
     demand_2 s 1 default_address 0 (record { none_waiting = none; arguments = refl; ready = bring_up }) replies
     ∙ ap (λ x. play x replies) (new_is_call_1 s.driver)

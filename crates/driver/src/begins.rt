@@ -2,22 +2,28 @@
 ghost use Rattle.std.specs.Prelude.{◌≡◌};
 ghost use Rattle.session.specs.Calls.{default_address};
 ghost use Rattle.session.specs.Machine.{begun, not_up, begin_def, other_def};
-ghost use Rattle.reactions.specs.Outcome.{outcome_of};
+ghost use Rattle.session.specs.Given.{outcome_of};
 ghost use Rattle.reactions.specs.Reactions.{Reaches};
 ghost use Rattle.driver.specs.Replies.{launching};
 
 use crate::replies::stays;
 use checks::{arguments_ok, ill_formed};
-use reactions::{Course, Outcome, Standing, Way, go, resting, way_of};
-use session::{Answer, CallRecord, Instruction, Session, WITH_ADDRESS};
+use reactions::{Decision, Move, Standing, calling, carry_out, move_of};
+use session::{Answer, CallRecord, Instruction, Outcome, Session, WITH_ADDRESS};
 
-// What the arguments decide: an answer with no transfer made, or the first transfer.
-fn launch(s: Standing) -> Course
+// What the arguments decide: an answer with no transfer made, or the first transfer. A leap leaves out all instructions.
+#[tactic(auto, unfolding(calls::specs::Calls::facts_of))]
+fn launch(s: Standing) -> Decision
     ensures { Reaches result (launching s.session) }
 {
-    let way = way_of(ends::entry(calls::call_of(s.session.code), s.session), 0, 0);
-    Course {
-        way,
+    let code = s.session.code;
+    let next = move_of(
+        programs::entry(code, s.session),
+        calls::facts_of(code).steps,
+        0,
+    );
+    Decision {
+        next,
         at: Instruction::Nowhere,
         session: s.session,
     }
@@ -27,12 +33,7 @@ fn launch(s: Standing) -> Course
 fn begun(s: Session, call: CallRecord) -> Session
     ensures { result ≡ begun s call.code call.a call.b }
 {
-    Session {
-        code: call.code,
-        a: call.a,
-        b: call.b,
-        ..resting(steps::held(call.code, s.driver))
-    }
+    calling(shapes::held(call.code, s.driver), call.code, call.a, call.b)
 }
 
 // A call that needs a sensor that is up, and has none.
@@ -42,18 +43,18 @@ fn not_up(code: u8, up: bool) -> bool
     if code == WITH_ADDRESS { false } else { !up }
 }
 
-#[tactic(auto, unfolding(reactions::specs::Standing::leads, reactions::specs::Reactions::plan_of, reactions::specs::Reactions::acting, session::specs::Machine::begin_def, crate::specs::Replies::launching))]
-pub fn begin_course(s: Session, call: CallRecord) -> Course
+#[tactic(auto, unfolding(reactions::specs::Standing::leads, reactions::specs::Reactions::action_of, reactions::specs::Reactions::acting, session::specs::Machine::begin_def, crate::specs::Replies::launching, calls::specs::Calls::steps_in))]
+pub fn call_decision(s: Session, call: CallRecord) -> Decision
     ensures { Reaches result (begin_def s call.code call.a call.b) }
 {
     if ill_formed(s) {
-        stays(Way::IllFormed, s)
+        stays(Move::IllFormed, s)
     } else if !arguments_ok(call) {
-        stays(Way::Refused(Answer::IllFormedRecord), s)
+        stays(Move::Refused(Answer::IllFormedRecord), s)
     } else if s.code != 0 {
-        stays(Way::Refused(Answer::CallWaits), s)
+        stays(Move::Refused(Answer::CallWaits), s)
     } else if not_up(call.code, s.driver.up) {
-        stays(Way::Refused(Answer::NotUp), s)
+        stays(Move::Refused(Answer::NotUp), s)
     } else {
         launch(Standing {
             at: Instruction::Nowhere,
@@ -65,7 +66,7 @@ pub fn begin_course(s: Session, call: CallRecord) -> Course
 pub fn begin(s: Session, call: CallRecord) -> Outcome
     ensures { result ≡ outcome_of (begin_def s call.code call.a call.b) }
 {
-    go(begin_course(s, call))
+    carry_out(call_decision(s, call))
 }
 
 // lib.rs: DEFAULT_ADDRESS, at which the sensor stands after power is switched on.
@@ -86,13 +87,13 @@ pub fn begin_new(s: Session) -> Outcome
 }
 
 // A record that is neither a call nor a reply.
-#[tactic(auto, unfolding(reactions::specs::Standing::leads, reactions::specs::Reactions::plan_of, reactions::specs::Reactions::acting, session::specs::Machine::other_def))]
-pub fn other_course(s: Session) -> Course
+#[tactic(auto, unfolding(reactions::specs::Standing::leads, reactions::specs::Reactions::action_of, reactions::specs::Reactions::acting, session::specs::Machine::other_def))]
+pub fn other_decision(s: Session) -> Decision
     ensures { Reaches result (other_def s) }
 {
     if ill_formed(s) {
-        stays(Way::IllFormed, s)
+        stays(Move::IllFormed, s)
     } else {
-        stays(Way::Refused(Answer::IllFormedRecord), s)
+        stays(Move::Refused(Answer::IllFormedRecord), s)
     }
 }

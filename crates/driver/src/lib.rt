@@ -7,8 +7,8 @@ mod replies;
 ghost use Rattle.std.specs.Prelude.{◌≡◌};
 ghost use Rattle.session.specs.Machine.{fresh_session};
 
-pub use begins::{DEFAULT_ADDRESS, begin, begin_course, begin_new, other_course};
-pub use replies::{outstanding, reply, reply_course};
+pub use begins::{DEFAULT_ADDRESS, begin, begin_new, call_decision, other_decision};
+pub use replies::{outstanding, reply, reply_decision};
 use session::{Driver, Session};
 
 pub fn fresh() -> Session

@@ -12,11 +12,11 @@ use borrow.Author.Tests.{leb-true, ltb-true}
 use Rattle.session.specs.declared.Session.{Session}
 use Rattle.session.specs.Bus.{byte}
 use Rattle.session.specs.Instructions.{bytes_from}
-use Rattle.session.proofs.Facts.{both}
+use Rattle.ground.proofs.Facts.{both}
 use Rattle.lines.specs.Lines.{flag}
-use Rattle.layout.specs.Layout.{word_bytes, long_bytes, word_at, long_at, session_bytes, is_session, session_of, session_in}
+use Rattle.layout.specs.Layout.{session_size, up_at, address_at, stop_at, budget_at, code_at, a_at, b_at, step_at, idle_at, transfers_at, failed_at, found_budget_at, carried_at, word_bytes, long_bytes, word_at, long_at, session_bytes, is_session, session_of, session_in}
 use Rattle.layout.specs.RoundTrip.{Fits, are_bytes, RoundTrip}
-use Rattle.layout.proofs.Images.{fifty_two}
+use Rattle.layout.proofs.Images.{sized}
 
 flag_is : (t : Bool) → eqb (flag t) 1 ≡ t
 flag_is true = refl
@@ -40,7 +40,7 @@ read_back : (s : Session) → Fits s → session_in (session_bytes s) ≡ s
 unfolding session_in session_of session_bytes
 read_back s h =
     rw (is_a_session s h)
-    (rw (flag_is s.driver.up, long_is s.driver.budget, long_is s.a, word_is s.b, long_is s.idle, long_is s.transfers, long_is s.own) refl)
+    (rw (flag_is s.driver.up, long_is s.driver.budget, long_is s.a, word_is s.b, long_is s.idle, long_is s.transfers, long_is s.found_budget) refl)
 
 -- bytes one by one, and what is left of them
 spread : (n k : ℕ) (l : List ℕ) → k + n ≤ length l → drop k l ≡ bytes_from k n l ++ drop (k + n) l
@@ -76,33 +76,35 @@ word_back a b hb =
     rw (ea, eb) refl
 
 module _ (l : List ℕ) (bytes : are_bytes l ≡ true) where
-  long_at_lem : (i j k m : ℕ) → long_bytes (byte i l * 16777216 + byte j l * 65536 + byte k l * 256 + byte m l) ≡ byte m l ∷ byte k l ∷ byte j l ∷ byte i l ∷ []
-  long_at_lem i j k m = long_back (byte i l) (byte j l) (byte k l) (byte m l) (below l i bytes) (below l j bytes) (below l k bytes) (below l m bytes)
+  long_at_lem : (i : ℕ) → long_bytes (long_at i l) ≡ byte i l ∷ byte (i + 1) l ∷ byte (i + 2) l ∷ byte (i + 3) l ∷ []
+  long_at_lem i =
+      long_back (byte (i + 3) l) (byte (i + 2) l) (byte (i + 1) l) (byte i l)
+      (below l (i + 3) bytes) (below l (i + 2) bytes) (below l (i + 1) bytes) (below l i bytes)
 
   -- the bytes of the session that is read, by its parts
   abbrev image : ℕ → List ℕ → List ℕ → List ℕ → List ℕ → List ℕ → List ℕ → List ℕ
-  image up budget a b idle transfers own =
-      (up ∷ byte 1 l ∷ byte 2 l ∷ budget)
-      ++ ((byte 7 l ∷ a) ++ b ++ (byte 14 l ∷ idle) ++ transfers)
-      ++ ((byte 23 l ∷ own) ++ drop 28 l)
+  image up budget a b idle transfers found_budget =
+      (up ∷ byte address_at l ∷ byte stop_at l ∷ budget)
+      ++ ((byte code_at l ∷ a) ++ b ++ (byte step_at l ∷ idle) ++ transfers)
+      ++ ((byte failed_at l ∷ found_budget) ++ drop carried_at l)
 
-  written : leb (byte 0 l) 1 ≡ true → 28 ≤ length l → session_bytes (session_of l) ≡ l
+  written : leb (byte up_at l) 1 ≡ true → carried_at ≤ length l → session_bytes (session_of l) ≡ l
   unfolding session_bytes session_of
   written flagged long =
-      ap (λ (x : ℕ). image x (long_bytes (long_at 3 l)) (long_bytes (long_at 8 l)) (word_bytes (word_at 12 l)) (long_bytes (long_at 15 l)) (long_bytes (long_at 19 l)) (long_bytes (long_at 24 l))) (flag_back (byte 0 l) (leb-true (byte 0 l) 1 flagged))
-      ∙ ap (λ (x : List ℕ). image (byte 0 l) x (long_bytes (long_at 8 l)) (word_bytes (word_at 12 l)) (long_bytes (long_at 15 l)) (long_bytes (long_at 19 l)) (long_bytes (long_at 24 l))) (long_at_lem 6 5 4 3)
-      ∙ ap (λ (x : List ℕ). image (byte 0 l) (bytes_from 3 4 l) x (word_bytes (word_at 12 l)) (long_bytes (long_at 15 l)) (long_bytes (long_at 19 l)) (long_bytes (long_at 24 l))) (long_at_lem 11 10 9 8)
-      ∙ ap (λ (x : List ℕ). image (byte 0 l) (bytes_from 3 4 l) (bytes_from 8 4 l) x (long_bytes (long_at 15 l)) (long_bytes (long_at 19 l)) (long_bytes (long_at 24 l))) (word_back (byte 13 l) (byte 12 l) (below l 12 bytes))
-      ∙ ap (λ (x : List ℕ). image (byte 0 l) (bytes_from 3 4 l) (bytes_from 8 4 l) (bytes_from 12 2 l) x (long_bytes (long_at 19 l)) (long_bytes (long_at 24 l))) (long_at_lem 18 17 16 15)
-      ∙ ap (λ (x : List ℕ). image (byte 0 l) (bytes_from 3 4 l) (bytes_from 8 4 l) (bytes_from 12 2 l) (bytes_from 15 4 l) x (long_bytes (long_at 24 l))) (long_at_lem 22 21 20 19)
-      ∙ ap (λ (x : List ℕ). image (byte 0 l) (bytes_from 3 4 l) (bytes_from 8 4 l) (bytes_from 12 2 l) (bytes_from 15 4 l) (bytes_from 19 4 l) x) (long_at_lem 27 26 25 24)
-      ∙ sym (spread 28 0 l long)
+      ap (λ (x : ℕ). image x (long_bytes (long_at budget_at l)) (long_bytes (long_at a_at l)) (word_bytes (word_at b_at l)) (long_bytes (long_at idle_at l)) (long_bytes (long_at transfers_at l)) (long_bytes (long_at found_budget_at l))) (flag_back (byte up_at l) (leb-true (byte up_at l) 1 flagged))
+      ∙ ap (λ (x : List ℕ). image (byte up_at l) x (long_bytes (long_at a_at l)) (word_bytes (word_at b_at l)) (long_bytes (long_at idle_at l)) (long_bytes (long_at transfers_at l)) (long_bytes (long_at found_budget_at l))) (long_at_lem budget_at)
+      ∙ ap (λ (x : List ℕ). image (byte up_at l) (bytes_from budget_at 4 l) x (word_bytes (word_at b_at l)) (long_bytes (long_at idle_at l)) (long_bytes (long_at transfers_at l)) (long_bytes (long_at found_budget_at l))) (long_at_lem a_at)
+      ∙ ap (λ (x : List ℕ). image (byte up_at l) (bytes_from budget_at 4 l) (bytes_from a_at 4 l) x (long_bytes (long_at idle_at l)) (long_bytes (long_at transfers_at l)) (long_bytes (long_at found_budget_at l))) (word_back (byte (b_at + 1) l) (byte b_at l) (below l b_at bytes))
+      ∙ ap (λ (x : List ℕ). image (byte up_at l) (bytes_from budget_at 4 l) (bytes_from a_at 4 l) (bytes_from b_at 2 l) x (long_bytes (long_at transfers_at l)) (long_bytes (long_at found_budget_at l))) (long_at_lem idle_at)
+      ∙ ap (λ (x : List ℕ). image (byte up_at l) (bytes_from budget_at 4 l) (bytes_from a_at 4 l) (bytes_from b_at 2 l) (bytes_from idle_at 4 l) x (long_bytes (long_at found_budget_at l))) (long_at_lem transfers_at)
+      ∙ ap (λ (x : List ℕ). image (byte up_at l) (bytes_from budget_at 4 l) (bytes_from a_at 4 l) (bytes_from b_at 2 l) (bytes_from idle_at 4 l) (bytes_from transfers_at 4 l) x) (long_at_lem found_budget_at)
+      ∙ sym (spread carried_at 0 l long)
 
 write_back : (l : List ℕ) → are_bytes l ≡ true → is_session l ≡ true → session_bytes (session_in l) ≡ l
 unfolding session_in is_session
 write_back l bytes h =
-    let long : 28 ≤ length l = omega (arith, fifty_two l h) in
-    rw h (written l bytes (both (eqb (length l) 52) (leb (byte 0 l) 1) h).1 long)
+    let long : carried_at ≤ length l = omega (arith, sized l h) in
+    rw h (written l bytes (both (eqb (length l) session_size) (leb (byte up_at l) 1) h).1 long)
 
 pub round_trip : RoundTrip
 round_trip = record { is_a_session = is_a_session; read_back = read_back; write_back = write_back }

@@ -10,7 +10,7 @@ pub record Fits (s : Session) : Type 0 where
   pub b : s.b < 65536
   pub idle : s.idle < 4294967296
   pub transfers : s.transfers < 4294967296
-  pub own : s.own < 4294967296
+  pub found_budget : s.found_budget < 4294967296
   pub carried : length s.carried ≡ 24
 
 abbrev pub are_bytes : List ℕ → Bool

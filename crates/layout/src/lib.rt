@@ -4,5 +4,5 @@
 mod outcomes;
 mod sessions;
 
-pub use outcomes::put_given;
-pub use sessions::{is_session, put_session, session_in, session_of};
+pub use outcomes::{NOT_PUT, OUTCOME_SIZE, put_given};
+pub use sessions::{SESSION_SIZE, is_session, put_session, session_in, session_of};

@@ -5,8 +5,8 @@ use Rattle.session.specs.declared.Answer.{Answer}
 use Rattle.session.specs.declared.Driver.{Driver}
 use Rattle.session.specs.declared.Transfer.{Transfer}
 use Rattle.session.specs.Bus.{bytes_of, number_of, values_of}
-use Rattle.reactions.specs.declared.Given.{Given}
-use Rattle.reactions.specs.declared.Outcome.{Outcome}
+use Rattle.session.specs.declared.Given.{Given}
+use Rattle.session.specs.declared.Outcome.{Outcome}
 
 abbrev pub newline : ℕ
 newline = 10

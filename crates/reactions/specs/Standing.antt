@@ -1,29 +1,17 @@
--- What the code knows of a session that stands at an instruction, and of one on its way.
-use Rattle.std.specs.Prelude.{◌≡◌, Bool, true, false, ◌≤◌}
-use Rattle.session.specs.declared.Instruction.{Instruction}
+-- What the code knows of a session that makes a move.
+use Rattle.std.specs.Prelude.{◌≡◌, Bool, true, false}
 use Rattle.session.specs.declared.Session.{Session}
-use Rattle.steps.specs.Steps.{most_at}
 use Rattle.checks.specs.Sound.{Sound}
-use Rattle.reactions.specs.declared.Way.{Way}
+use Rattle.reactions.specs.declared.Move.{Move}
 
--- the session's call can go on, and what the instruction writes fits
-pub record Ready (i : Instruction) (s : Session) : Type 0 where
-  pub sound : Sound s
-  pub fits : s.a ≤ most_at i
-
--- does a way stay in the session's call?
-unfoldable pub leads : Way → Bool
-leads (Way.To k) = true
-leads (Way.Again n) = true
-leads (Way.Out x) = true
-leads (Way.Refused x) = false
-leads Way.IllFormed = false
+-- does a move stay in the session's call?
+unfoldable pub leads : Move → Bool
+leads (Move.To k) = true
+leads (Move.Again n) = true
+leads (Move.Out x) = true
+leads (Move.Refused x) = false
+leads Move.IllFormed = false
 
 -- what is known of a session that its call goes on with
 abbrev pub SoundIf : Bool → Session → Type 0
 SoundIf on s = on ≡ true → Sound s
-
--- a course that the code can go: its session is sound, and what its instruction writes fits
-pub record Fit (way : Way) (at : Instruction) (s : Session) : Type 0 where
-  pub sound : SoundIf (leads way) s
-  pub fits : s.a ≤ most_at at

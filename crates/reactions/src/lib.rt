@@ -1,51 +1,32 @@
-// Where a record takes a session, in four steps: what is kept of a reply, which way the call goes, what that comes to, and the outcome.
+// Where a record takes a session, in four steps: what is kept of a reply, the move that it makes, the action that this comes to, and the outcome.
 #![tactic(auto)]
 
-mod kept;
+mod actions;
+mod moves;
 mod outcomes;
-mod plans;
 mod standing;
-mod ways;
 
 ghost use Rattle.std.specs.Prelude.{◌≡◌};
 ghost use Rattle.session.specs.Calls.{program_of};
 ghost use Rattle.session.specs.Machine.{react, to_reply};
 ghost use Rattle.session.specs.Steps.{op_of};
-ghost use Rattle.steps.specs.Steps.{shape_of};
-ghost use Rattle.reactions.specs.Outcome.{outcome_of};
+ghost use Rattle.shapes.specs.Shapes.{shape_of};
+ghost use Rattle.session.specs.Given.{outcome_of};
 ghost use Rattle.reactions.specs.Reactions.{reached, Reaches};
 
-use crate::kept::kept_by;
+use crate::actions::action_of;
+use crate::moves::move_after;
 use crate::outcomes::act;
-use crate::plans::plan_of;
-use crate::ways::way_after;
-pub use outcomes::{resting, transfer_of};
-use session::{Answer, Instruction, ReplyRecord, Session, Transfer};
-pub use standing::{Course, Standing};
-use steps::Shape;
-pub use ways::way_of;
+pub use moves::move_of;
+pub use outcomes::{calling, resting};
+use session::{Answer, Instruction, Outcome, ReplyRecord, Session};
+use shapes::{Shape, kept_by};
+pub use standing::{Decision, Standing};
 
-// One of four: a transfer, the answer of a call with the transfers that it made, a refusal, or the session itself is ill-formed (answer 15).
-#[derive(Clone, Copy)]
-pub enum Given {
-    Sent(Transfer),
-    Answered(Answer, u32),
-    Refused(Answer),
-    IllFormed,
-}
-
-// What a call, a reply or a record gives, and the new session.
-#[derive(Clone, Copy)]
-pub struct Outcome {
-    pub given: Given,
-    pub session: Session,
-}
-
-// Five ways, of which none is an absence or an error, so that no Option or Result says them.
 // Where a record leads: on to a step, to the same read once more after so many idle ones, out with an answer, or nowhere, since it is refused or the
-// session is ill-formed.
+// session is ill-formed. None of the five is an absence or an error, so that no Option or Result says them.
 #[derive(Clone, Copy)]
-pub enum Way {
+pub enum Move {
     To(u32),
     Again(u32),
     Out(Answer),
@@ -54,9 +35,9 @@ pub enum Way {
 }
 
 // What that comes to: an instruction is sent at a step after so many idle reads there, the call ends after its last
-// instruction or with an answer, or the session stays. A case for each way that is left, as above.
+// instruction or with an answer, or the session stays. A case for each move that is left.
 #[derive(Clone, Copy)]
-pub enum Plan {
+pub enum Action {
     Send(Instruction, u8, u32),
     End,
     Answer(Answer),
@@ -64,17 +45,17 @@ pub enum Plan {
     IllFormed,
 }
 
-// A course, to its end.
+// What a decision comes to.
 #[tactic(auto, unfolding(crate::specs::Reactions::reached))]
-pub fn go(c: Course) -> Outcome
+pub fn carry_out(c: Decision) -> Outcome
     ensures { result ≡ outcome_of (reached c) }
 {
-    act(plan_of(c), c.session)
+    act(action_of(c), c.session)
 }
 
-// The course of a session that waits for the reply to an instruction of a shape. The shape is looked up once, for speed, and is in no type:
+// The decision of a session that waits for the reply to an instruction of a shape. The shape is looked up once, for speed, and is in no type:
 // what is sent afterwards has none.
-pub fn react(s: Standing, shape: Shape, reply: ReplyRecord) -> Course
+pub fn react(s: Standing, shape: Shape, reply: ReplyRecord) -> Decision
     requires { shape ≡ shape_of (op_of s.at) }
     ensures { Reaches result (react (op_of s.at) (program_of s.session.code) s.session (to_reply reply.failure reply.data)) }
 {
@@ -82,9 +63,9 @@ pub fn react(s: Standing, shape: Shape, reply: ReplyRecord) -> Course
         at: s.at,
         session: kept_by(shape, s.session, reply),
     };
-    let way = way_after(kept, shape, reply);
-    Course {
-        way,
+    let next = move_after(kept, shape, reply);
+    Decision {
+        next,
         at: kept.at,
         session: kept.session,
     }

@@ -1,32 +1,39 @@
-// What a plan comes to: a transfer, the answer of a call, or a session that stays.
+// What an action comes to: a transfer, the answer of a call, or a session that stays.
 ghost use Rattle.std.specs.Prelude.{◌≡◌, ◌≤◌};
 ghost use Rattle.session.specs.Instructions.{send_of};
-ghost use Rattle.session.specs.Machine.{sent, refused, broken, context_of, address_of, sending, resting, answering, giving};
+ghost use Rattle.session.specs.Machine.{sent, refused, broken, context_of, calling, sending, resting, answering, giving};
 ghost use Rattle.session.specs.Steps.{op_of};
-ghost use Rattle.reactions.specs.Outcome.{outcome_of};
+ghost use Rattle.session.specs.Given.{outcome_of};
 ghost use Rattle.reactions.specs.Standing.{SoundIf};
-ghost use Rattle.reactions.specs.Reactions.{moves, most_in, ending, concluding, acting};
+ghost use Rattle.reactions.specs.Reactions.{acts, ending, concluding, acting};
 
-use crate::{Given, Outcome, Plan, Standing};
-use ends::{Finished, RangeFailure};
-use session::{Answer, Driver, Instruction, Session, Transfer, WITH_ADDRESS};
+use crate::{Action, Standing};
+use programs::{Finished, RangeFailure};
+use session::{Answer, Driver, Given, Outcome, Session};
+
+// A call that has made no transfer yet, with its code and its arguments; the code 0 is none.
+pub fn calling(driver: Driver, code: u8, a: u32, b: u16) -> Session
+    ensures { result ≡ calling driver code a b }
+{
+    Session {
+        driver,
+        code,
+        a,
+        b,
+        step: 0,
+        idle: 0,
+        transfers: 0,
+        failed: 0,
+        found_budget: 0,
+        carried: [0; 24],
+    }
+}
 
 // All that a call carried becomes zero.
 pub fn resting(driver: Driver) -> Session
     ensures { result ≡ resting driver }
 {
-    Session {
-        driver,
-        code: 0,
-        a: 0,
-        b: 0,
-        step: 0,
-        idle: 0,
-        transfers: 0,
-        failed: 0,
-        own: 0,
-        carried: [0; 24],
-    }
+    calling(driver, 0, 0, 0)
 }
 
 // One transfer more, at a step, after so many idle reads there.
@@ -42,34 +49,17 @@ fn sending(step: u8, idle: u32, s: Session) -> Session
     }
 }
 
-// A bring-up's transfers go to its own address.
-fn address_of(s: Standing) -> u8
-    ensures { result ≡ address_of s.session.code s.session.a s.session.driver }
-{
-    if s.session.code == WITH_ADDRESS {
-        s.session.a as u8
-    } else {
-        s.session.driver.address
-    }
-}
-
-pub fn transfer_of(s: Standing) -> Transfer
-    ensures { result ≡ send_of (op_of s.at) (context_of s.session) }
-{
-    transfers::transfer_to(address_of(s), s.at, s.session)
-}
-
-#[tactic(auto, unfolding(crate::specs::Outcome::outcome_of))]
+#[tactic(auto, unfolding(session::specs::Given::outcome_of))]
 fn send(s: Standing, step: u8, idle: u32) -> Outcome
     ensures { result ≡ outcome_of (sent (send_of (op_of s.at) (context_of s.session)) (sending step idle s.session)) }
 {
     Outcome {
-        given: Given::Sent(transfer_of(s)),
+        given: Given::Sent(transfers::send_of(s.at, s.session)),
         session: sending(step, idle, s.session),
     }
 }
 
-#[tactic(auto, unfolding(crate::specs::Outcome::outcome_of))]
+#[tactic(auto, unfolding(session::specs::Given::outcome_of))]
 fn answer(x: Answer, driver: Driver, s: Session) -> Outcome
     ensures { result ≡ outcome_of (answering x driver s) }
 {
@@ -85,7 +75,7 @@ fn give(x: Answer, s: Session) -> Outcome
     ensures { result ≡ outcome_of (giving x s) }
 {
     let driver = s.driver;
-    answer(x, steps::held(s.code, driver), s)
+    answer(x, shapes::held(s.code, driver), s)
 }
 
 #[tactic(auto, unfolding(crate::specs::Reactions::ending))]
@@ -99,35 +89,29 @@ fn end(how: Result<Finished, RangeFailure>, s: Session) -> Outcome
 }
 
 // With no instruction left the call ends.
-fn conclude(s: Standing) -> Outcome
-    ensures { result ≡ outcome_of (concluding s.session) }
+#[tactic(auto, using(crate::proofs::Meets::ends))]
+fn conclude(s: Session) -> Outcome
+    ensures { result ≡ outcome_of (concluding s) }
 {
-    end(
-        ends::final_of(calls::call_of(s.session.code), s.session),
-        s.session,
-    )
+    end(programs::final_of(s.code, s), s)
 }
 
-// What it asks of the session is in no type here, since a plan is made by a definition, which holds no proofs.
-#[tactic(auto, unfolding(crate::specs::Outcome::outcome_of, crate::specs::Reactions::acting))]
-pub(crate) fn act(plan: Plan, s: Session) -> Outcome
-    requires sound_if { SoundIf (moves plan) s }
-    requires a_bound { s.a ≤ most_in plan }
-    ensures { result ≡ outcome_of (acting plan s) }
+// What it asks of the session is in no type here, since an action is made by a definition, which holds no proofs.
+#[tactic(auto, unfolding(session::specs::Given::outcome_of, crate::specs::Reactions::acting))]
+pub(crate) fn act(action: Action, s: Session) -> Outcome
+    requires { SoundIf (acts action) s }
+    ensures { result ≡ outcome_of (acting action s) }
 {
-    match plan {
-        Plan::Send(at, step, idle) => send(Standing { at, session: s }, step, idle),
-        Plan::End => conclude(Standing {
-            at: Instruction::Nowhere,
-            session: s,
-        }),
-        Plan::Answer(x) => give(x, s),
+    match action {
+        Action::Send(at, step, idle) => send(Standing { at, session: s }, step, idle),
+        Action::End => conclude(s),
+        Action::Answer(x) => give(x, s),
         // A refusal keeps the session.
-        Plan::Refused(x) => Outcome {
+        Action::Refused(x) => Outcome {
             given: Given::Refused(x),
             session: s,
         },
-        Plan::IllFormed => Outcome {
+        Action::IllFormed => Outcome {
             given: Given::IllFormed,
             session: s,
         },

@@ -1,22 +1,23 @@
-// A session at an instruction, and a session on its way.
-ghost use Rattle.reactions.specs.Standing.{Ready, Fit};
+// A session at an instruction, and a session with the move that it makes.
+ghost use Rattle.checks.specs.Sound.{Sound};
+ghost use Rattle.reactions.specs.Standing.{leads, SoundIf};
 
-use crate::Way;
+use crate::Move;
 use session::{Instruction, Session};
 
-// A session of a call at an instruction of it; before the first and after the last, at none. Its arguments are in range and its transfers can be counted.
+// A session of a call at an instruction of it; before the first and after the last, at none. One transfer more can be counted.
 #[derive(Clone, Copy)]
 pub struct Standing {
     pub at: Instruction,
     pub session: Session,
-    pub ghost ready: { Ready at session },
+    pub ghost sound: { Sound session },
 }
 
-// A way from an instruction, and the session that goes it.
+// A move from an instruction, and the session that makes it.
 #[derive(Clone, Copy)]
-pub struct Course {
-    pub way: Way,
+pub struct Decision {
+    pub next: Move,
     pub at: Instruction,
     pub session: Session,
-    pub ghost fit: { Fit way at session },
+    pub ghost sound_if: { SoundIf (leads next) session },
 }

@@ -4,7 +4,7 @@ ghost use Rattle.records.specs.Records.{meant};
 ghost use Rattle.reader.specs.Events.{event_of, event_at, place_after};
 
 use crate::Event;
-use checks::has_room;
+use ground::has_room;
 use records::Record;
 
 #[tactic(auto, unfolding(crate::specs::Events::event_of, records::specs::Records::meant))]

@@ -9,7 +9,7 @@ use borrow.Author.Tests.{eqb-true}
 use lib.Dec.{eqb}
 use Rattle.session.specs.Records.{Record, record_of}
 use Rattle.session.specs.History.{Got, transfer, answer, refusal, Entry, is_accepted, is_accepted_call, is_accepted_reply, counts_of as history_counts}
-use Rattle.reactions.specs.declared.Given.{Given}
+use Rattle.session.specs.declared.Given.{Given}
 use Rattle.records.specs.declared.Counts.{Counts}
 use Rattle.records.specs.Runs.{counts_of, one_if, added_to}
 

@@ -8,10 +8,10 @@ use lib.Dec.{eqb}
 use Rattle.session.specs.declared.Session.{Session}
 use Rattle.session.specs.declared.Answer.{Answer}
 use Rattle.session.specs.Machine.{Outcome as Result, sent, answered, refused, broken, ill_formed, fresh_session}
-use Rattle.session.specs.Records.{record_of, records_of, step_def}
-use Rattle.session.specs.History.{transfer, answer, refusal, Entry, stopped, taking, run_from, run_records, run_def}
+use Rattle.session.specs.Records.{record_of, records_of}
+use Rattle.session.specs.History.{step_def, transfer, answer, refusal, Entry, stopped, taking, run_from, run_records, run_def}
 use Rattle.session.proofs.Demand3.{demand_3}
-use Rattle.reactions.specs.Outcome.{outcome_of}
+use Rattle.session.specs.Given.{outcome_of}
 use Rattle.std.proofs.Common.{Option, Ok, Err, cond, ◌/◌}
 use Rattle.std.specs.Option.{option_map, option_and_then, ok_or}
 use Rattle.std.specs.Simd.{first_chunks}

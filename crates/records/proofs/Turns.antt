@@ -11,10 +11,11 @@ use native.Mathlib.Numerals.{towards_suc, add-one}
 use lib.Dec.{eqb}
 use lib.ListN.{length, get_or, take, drop, length-drop}
 use lib.Seq.{drop-cons, take_all}
-use Rattle.reactions.specs.declared.Given.{Given}
-use Rattle.reactions.specs.Outcome.{outcome_of}
+use Rattle.session.specs.declared.Given.{Given}
+use Rattle.session.specs.Given.{outcome_of}
 use Rattle.session.specs.Bus.{byte}
-use Rattle.session.specs.Records.{records_of, step_def}
+use Rattle.session.specs.Records.{records_of}
+use Rattle.session.specs.History.{step_def}
 use Rattle.records.specs.declared.Counts.{Counts}
 use Rattle.records.specs.Records.{record_in, record_at}
 use Rattle.records.specs.Runs.{Room, one_if, added_to, progress_of, advance, going}

@@ -6,11 +6,10 @@ use Rattle.session.specs.declared.Session.{Session}
 use Rattle.session.specs.declared.Answer.{Answer}
 use Rattle.session.specs.Bus.{byte}
 use Rattle.session.specs.Machine.{ill_formed}
-use Rattle.session.specs.Records.{step_def}
-use Rattle.session.specs.History.{Counts as CountsOf, Run}
-use Rattle.session.specs.Claim3.{Demand3}
-use Rattle.reactions.specs.declared.Given.{Given}
-use Rattle.reactions.specs.Outcome.{outcome_of}
+use Rattle.session.specs.History.{step_def, Counts as CountsOf, Run}
+use Rattle.session.specs.Claim3.{Both3}
+use Rattle.session.specs.declared.Given.{Given}
+use Rattle.session.specs.Given.{outcome_of}
 use Rattle.records.specs.declared.Counts.{Counts}
 use Rattle.records.specs.declared.ListRun.{ListRun}
 use Rattle.records.specs.declared.runs.Progress.{Progress}
@@ -23,11 +22,11 @@ counts_of c = record { calls = c.calls; answers = c.answers; replies = c.replies
 unfoldable pub list_run_of : Run → ListRun
 list_run_of run = record { answer = run.answer; session = run.session; counts = counts_of run.counts }
 
--- demand 3 of a run that starts fresh: there is a history, and with it the run is one of which demand 3 holds
+-- demand 3 of a run that starts fresh: there is a history, and with it the run is the list's, and one of which demand 3 holds
 pub record RunsFresh (bytes : List ℕ) (r : ListRun) : Type 0 where
   pub run : Run
   pub shown : r ≡ list_run_of run
-  pub demand_3 : Demand3 bytes run
+  pub demand_3 : Both3 bytes run
 
 -- no count is above n
 pub record Room (c : Counts) (n : ℕ) : Type 0 where

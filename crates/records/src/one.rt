@@ -1,13 +1,13 @@
 // One record meets one session.
 ghost use Rattle.std.specs.Prelude.{◌≡◌, ◌+◌, get_or};
-ghost use Rattle.session.specs.Records.{step_def};
-ghost use Rattle.reactions.specs.Outcome.{outcome_of};
+ghost use Rattle.session.specs.History.{step_def};
+ghost use Rattle.session.specs.Given.{outcome_of};
 ghost use Rattle.reactions.specs.Reactions.{Reaches};
 ghost use Rattle.records.specs.Records.{record_in, record_at, shown, meant};
 
 use crate::Record;
-use reactions::{Course, Outcome};
-use session::{CallRecord, ReplyRecord, Session};
+use reactions::Decision;
+use session::{CallRecord, Outcome, ReplyRecord, Session};
 use std::array;
 
 // SCOPE 7.1: a call is 0x01, its code, A and B; a reply is 0x02, its failure code and six data bytes.
@@ -50,19 +50,21 @@ pub fn record_at(bytes: &[u8], at: usize) -> [u8; 8]
 }
 
 // A match, one arm for each case with what it holds.
-#[tactic(auto, unfolding(session::specs::Records::step_def, crate::specs::Records::meant))]
-fn course_of(s: Session, met: Record) -> Course
+#[tactic(auto, unfolding(session::specs::History::step_def, crate::specs::Records::meant))]
+fn decision_of(s: Session, met: Record) -> Decision
     ensures { Reaches result (step_def s (meant met)) }
 {
     match met {
-        Record::Call(call) => driver::begin_course(s, call),
-        Record::Reply(reply) => driver::reply_course(s, reply),
-        Record::Other => driver::other_course(s),
+        Record::Call(call) => driver::call_decision(s, call),
+        Record::Reply(reply) => driver::reply_decision(s, reply),
+        Record::Other => driver::other_decision(s),
     }
 }
 
+// A record goes up as a decision and down again as an action: each kind of record makes its tests in a function of its own, and what they come to
+// is carried out in one place, for all three. What is called from one place is compiled into its caller, so that a step becomes one piece of code.
 pub fn step(s: Session, record: [u8; 8]) -> Outcome
     ensures { result ≡ outcome_of (step_def s (record_in «record»)) }
 {
-    reactions::go(course_of(s, Record::from(record)))
+    reactions::carry_out(decision_of(s, Record::from(record)))
 }

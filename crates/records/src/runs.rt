@@ -5,8 +5,7 @@ ghost use Rattle.records.specs.Runs.{Room, added_to, advance, starting, going, g
 
 use crate::one::step;
 use crate::{Counts, ListRun};
-use reactions::Given;
-use session::{Answer, Session};
+use session::{Answer, Given, Session};
 
 // Where a run is: the session, and the counts so far.
 #[derive(Clone, Copy)]

@@ -36,7 +36,7 @@ pub fn measurement_timing_budget(out: &mut impl Write, b: [u8; 8], budget: u32) 
     write!(out, " ")?;
     word_or(
         out,
-        budget::final_range_word(r, Microseconds(budget), DssTerm::Once),
+        budget::set_budget(r, Microseconds(budget), DssTerm::Once),
     )?;
     write!(out, " ")?;
     first_place(out, r)

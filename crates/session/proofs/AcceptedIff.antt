@@ -1,60 +1,100 @@
 -- A call is accepted exactly where the numbers of SCOPE 5.1 and SCOPE 9.1 say so.
-use mathlib.Core.Path.{◌≡◌, refl, sym, subst, ◌∙◌}
+use mathlib.Core.Path.{◌≡◌, refl, sym, ap, ◌∙◌}
 use mathlib.Core.Logic.{◌↔◌}
-use mathlib.Core.Bool.{Bool, true, false, not, cond, and-false}
-use native.Mathlib.Nat.{zero-add}
-use Prim.Native.Nat.{ℕ, ◌≤◌}
+use mathlib.Core.Bool.{Bool, true, false, not, ◌&&◌, cond, and-false}
+use mathlib.Core.List.{List, [], ◌∷◌}
+use Prim.Native.Nat.{ℕ, zero, suc, ◌+◌, ◌-◌, ◌<◌, ◌≤◌}
+use native.Mathlib.Nat.{add-suc, suc-add}
 use native.Mathlib.Omega.{arith}
-use lib.Dec.{eqb, leb}
-use borrow.Author.Tests.{leb-true, eqb-true, not-false, lt-leb, leb-false, ne_eqb}
-use Rattle.session.specs.Records.{step_def, call}
-use Rattle.session.specs.Calls.{program_of, greatest, arguments_ok}
+use lib.Dec.{eqb, ltb, leb}
+use lib.ListN.{length, get_or, drop}
+use borrow.Author.Tests.{leb-true, leb-false, le-leb, lt-leb, lt-ltb, le-ltb, eqb-true, eqb-false, not-false}
+use Rattle.session.specs.Records.{call}
+use Rattle.session.specs.History.{step_def}
+use Rattle.session.specs.Calls.{Program, nothing, programs, program_of, top_code, arguments_ok}
 use Rattle.session.specs.Machine.{Session, context_of, waits_now, ill_formed, begun, not_up, begin_def}
-use Rattle.session.specs.Refusals.{ranges, in_range}
+use Rattle.session.specs.Refusals.{Row, call_rows, in_range}
 use Rattle.session.specs.Claim2.{Ready, bring_up, while_up, Accepted}
 use Rattle.session.specs.Claim1.{Accepts}
-use Rattle.session.proofs.Facts.{cond_case}
-use Rattle.session.proofs.Table.{AllBelow, below}
+use Rattle.ground.proofs.Facts.{cond_case, both, untrue}
 use Rattle.session.proofs.Accepts.{decide_accepts}
 
--- the arguments that 13 lets pass are those of the table of refusals
-abbrev Same : ℕ → Type 0
-Same code = (a b : ℕ) → arguments_ok code a b ≡ in_range code a b ranges
+-- the rows of the table of refusals against the programs, counted from code i
+abbrev same_ranges : ℕ → List Program → List Row → Bool
+same_ranges i [] [] = true
+same_ranges i [] (r ∷ rs) = false
+same_ranges i (p ∷ ps) [] = false
+same_ranges i (p ∷ ps) (r ∷ rs) = (eqb i r.code && (eqb p.greatest_a r.greatest_a && eqb p.greatest_b r.greatest_b)) && same_ranges (suc i) ps rs
 
-beyond : (code : ℕ) → 16 ≤ code → Same code
-unfolding arguments_ok
-beyond code h a b =
-    rw (
-      lt-leb code 15 (omega arith),
-      and-false (leb 1 code),
-      ne_eqb code 1 (λ e. omega arith),
-      ne_eqb code 2 (λ e. omega arith),
-      ne_eqb code 3 (λ e. omega arith),
-      ne_eqb code 4 (λ e. omega arith),
-      ne_eqb code 5 (λ e. omega arith),
-      ne_eqb code 6 (λ e. omega arith),
-      ne_eqb code 7 (λ e. omega arith),
-      ne_eqb code 8 (λ e. omega arith),
-      ne_eqb code 9 (λ e. omega arith),
-      ne_eqb code 10 (λ e. omega arith),
-      ne_eqb code 11 (λ e. omega arith),
-      ne_eqb code 12 (λ e. omega arith),
-      ne_eqb code 13 (λ e. omega arith),
-      ne_eqb code 14 (λ e. omega arith),
-      ne_eqb code 15 (λ e. omega arith),
-    )
+-- one of the programs has this code, and takes these arguments
+abbrev taken : ℕ → List Program → ℕ → ℕ → ℕ → Bool
+taken i [] code a b = false
+taken i (p ∷ ps) code a b = cond (eqb code i) (leb a p.greatest_a && leb b p.greatest_b) (taken (suc i) ps code a b)
 
-each : AllBelow Same 0 16
-unfolding arguments_ok greatest
-each =
-    (λ a b. refl, (λ a b. refl, (λ a b. refl, (λ a b. refl, (λ a b. refl, (λ a b. refl, (λ a b. refl, (λ a b. refl, (λ a b. refl, (λ a b. refl, (λ a b. refl, (λ a b. refl, (λ a b. refl, (λ a b. refl, (λ a b. refl, (λ a b. refl, tt))))))))))))))))
+taken_is : (i : ℕ) (ps : List Program) (rs : List Row) → same_ranges i ps rs ≡ true → (code a b : ℕ) → taken i ps code a b ≡ in_range code a b rs
+taken_is i [] [] h code a b = refl
+taken_is i [] (r ∷ rs) h code a b = untrue h
+taken_is i (p ∷ ps) [] h code a b = untrue h
+taken_is i (p ∷ ps) (r ∷ rs) h code a b =
+    let q = both (eqb i r.code && (eqb p.greatest_a r.greatest_a && eqb p.greatest_b r.greatest_b)) (same_ranges (suc i) ps rs) h in
+    let c = both (eqb i r.code) (eqb p.greatest_a r.greatest_a && eqb p.greatest_b r.greatest_b) q.0 in
+    let m = both (eqb p.greatest_a r.greatest_a) (eqb p.greatest_b r.greatest_b) c.1 in
+    rw (eqb-true i r.code c.0, eqb-true p.greatest_a r.greatest_a m.0, eqb-true p.greatest_b r.greatest_b m.1)
+    (ap (cond (eqb code r.code) (leb a r.greatest_a && leb b r.greatest_b)) (rw (eqb-true i r.code c.0) at (taken_is (suc i) ps rs q.1 code a b)))
 
-pub range_is : (code a b : ℕ) → arguments_ok code a b ≡ in_range code a b ranges
-range_is code a b = go (leb 16 code) refl
+-- in other words: the code is among them, and its program takes the arguments
+abbrev within : ℕ → List Program → ℕ → ℕ → ℕ → Bool
+within i ps code a b =
+    (leb i code && ltb code (i + length ps))
+    && (leb a (get_or ps (code - i) nothing).greatest_a && leb b (get_or ps (code - i) nothing).greatest_b)
+
+within_is : (ps : List Program) (i code a b : ℕ) → within i ps code a b ≡ taken i ps code a b
+within_is [] i code a b = go (leb i code) refl
   where
-    go : (t : Bool) → leb 16 code ≡ t → arguments_ok code a b ≡ in_range code a b ranges
-    go true e = beyond code (leb-true 16 code e) a b
-    go false e = subst Same (zero-add code) (below Same 0 16 each code (leb-false 16 code e)) a b
+    go : (t : Bool) → leb i code ≡ t → within i [] code a b ≡ false
+    go true e = rw (le-ltb code (i + 0) (omega (arith, leb-true i code e)), and-false (leb i code)) refl
+    go false e = rw e refl
+within_is (p ∷ ps) i code a b = go (eqb code i) refl (within_is ps (suc i) code a b)
+  where
+    later : (t : Bool) → leb i code ≡ t → (code ≡ i → ⊥) → within i (p ∷ ps) code a b ≡ within (suc i) ps code a b
+    later true e n =
+        let l : i ≤ code = leb-true i code e in
+        let m : code - i ≡ suc (code - suc i) = omega arith in
+        let x : suc i ≤ code = omega arith in
+        rw (e, le-leb (suc i) code x, m, add-suc i (length ps), suc-add i (length ps)) refl
+    later false e n =
+        let l : code < i = leb-false i code e in
+        rw (e, lt-leb (suc i) code (omega arith)) refl
+
+    go : (t : Bool) → eqb code i ≡ t → within (suc i) ps code a b ≡ taken (suc i) ps code a b
+        → within i (p ∷ ps) code a b ≡ cond t (leb a p.greatest_a && leb b p.greatest_b) (taken (suc i) ps code a b)
+    go true e h =
+        let q : code ≡ i = eqb-true code i e in
+        let z : code - i ≡ 0 = omega arith in
+        let l : i ≤ code = omega arith in
+        let u : code < i + suc (length ps) = omega arith in
+        rw (z, le-leb i code l, lt-ltb code (i + suc (length ps)) u) refl
+    go false e h = later (leb i code) refl (λ q. absurd (eqb-false code i e q)) ∙ h
+
+below_next : (k n : ℕ) → leb k n ≡ ltb k (suc n)
+below_next k n = go (leb k n) refl
+  where
+    go : (t : Bool) → leb k n ≡ t → t ≡ ltb k (suc n)
+    go true e = let l : k ≤ n = leb-true k n e in sym (lt-ltb k (suc n) (omega arith))
+    go false e = let l : n < k = leb-false k n e in sym (le-ltb k (suc n) (omega arith))
+
+-- the arguments that 13 lets pass are those of the table of refusals
+pub range_is : (code a b : ℕ) → arguments_ok code a b ≡ in_range code a b call_rows
+unfolding arguments_ok program_of programs call_rows
+range_is zero a b = refl
+range_is (suc k) a b =
+    ap (λ t. (leb 1 (suc k) && t) && (leb a (program_of (suc k)).greatest_a && leb b (program_of (suc k)).greatest_b)) (below_next (suc k) top_code)
+    ∙ ap (λ n. (leb 1 (suc k) && ltb (suc k) (suc top_code)) && (leb a (get_or (drop 1 programs) n nothing).greatest_a && leb b (get_or (drop 1 programs) n nothing).greatest_b)) (sym before)
+    ∙ within_is (drop 1 programs) 1 (suc k) a b
+    ∙ taken_is 1 (drop 1 programs) call_rows refl (suc k) a b
+  where
+    before : suc k - 1 ≡ k
+    before = omega arith
 
 pub ready_ok : (s : Session) (code : ℕ) → Ready s code → not_up code s.driver.up ≡ false
 ready_ok s code bring_up = refl
@@ -87,4 +127,4 @@ accepted_iff s code a b = (there, back)
     back : Accepted s code a b → Accepts (step_def s (call code a b))
     back h =
         rw (h.none_waiting, range_is code a b ∙ h.arguments, ready_ok s code h.ready)
-        (decide_accepts ((program_of code).entry (context_of (begun s code a b))) (program_of code) 0 0 (begun s code a b))
+        (decide_accepts ((program_of code).entry (context_of (begun s code a b))) (program_of code) (length (program_of code).steps) 0 (begun s code a b))

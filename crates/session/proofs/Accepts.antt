@@ -10,7 +10,7 @@ use Rattle.session.specs.Instructions.{Context, Verdict, onward, leap, stop, tes
 use Rattle.session.specs.Calls.{Program, ops_of, program_of}
 use Rattle.session.specs.Machine.{Session, Outcome, sent, answered, resting, context_of, kept_of, giving, conclude, enter, arrive, decide, react, to_reply, stray, on_ops, waits_now, ill_formed, reply_def}
 use Rattle.session.specs.Claim1.{Accepts, LeavesNone}
-use Rattle.session.proofs.Facts.{cond_case, clash}
+use Rattle.ground.proofs.Facts.{cond_case, clash}
 
 -- a property of what a call gives, for every session of the call
 module _ (P : Outcome → Type 0) (code : ℕ)
@@ -38,14 +38,14 @@ module _ (P : Outcome → Type 0) (code : ℕ)
   pub react_all : (op : Op) (p : Program) (x : Session) (r : Reply) → x.code ≡ code → P (react op p x r)
   react_all (write reg bytes len over after) p x (bad k) e = end _ x e
   react_all (write reg bytes len over after) p x (good bs) e = decide_all (after (context_of x)) p over (suc x.step) x e
-  react_all (read reg len slot over after) p x (bad k) e = end _ x e
-  react_all (read reg len slot over after) p x (good bs) e =
-      decide_all (after (context_of (kept_of x (read reg len slot over after) (good bs)))) p over (suc x.step) (kept_of x (read reg len slot over after) (good bs)) e
+  react_all (read reg len slot finds over after) p x (bad k) e = end _ x e
+  react_all (read reg len slot finds over after) p x (good bs) e =
+      decide_all (after (context_of (kept_of x (read reg len slot finds over after) (good bs)))) p over (suc x.step) (kept_of x (read reg len slot finds over after) (good bs)) e
   react_all (wait w) p x (bad k) e = end _ x e
   react_all (wait w) p x (good bs) e =
       cond_case P (idle_on w bs) (λ h. cond_case P (ltb (suc x.idle) (wait_limit x.code w)) (λ h'. out _ _) (λ h'. end _ x e)) (λ h. arrive_all p _ x e)
-  react_all range p x (bad k) e = arrive_all p _ _ e
-  react_all range p x (good bs) e = arrive_all p _ _ e
+  react_all (range reg len slot over) p x (bad k) e = arrive_all p _ _ e
+  react_all (range reg len slot over) p x (good bs) e = arrive_all p _ _ e
 
 pub decide_accepts : (v : Verdict) (p : Program) (over k : ℕ) (x : Session) → Accepts (decide v p over k x)
 decide_accepts v p over k x = decide_all Accepts x.code (λ t s. tt) (λ v n d. tt) (λ y s e. tt) v p over k x refl

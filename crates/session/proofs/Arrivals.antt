@@ -6,14 +6,15 @@ use Prim.Native.Nat.{ℕ, suc, ◌+◌, ◌≤◌, ◌<◌}
 use native.Mathlib.Omega.{arith}
 use lib.Dec.{eqb}
 use lib.ListN.{length, drop}
-use Rattle.session.specs.Bus.{Driver, Transfer, Answer, Condition, detector_ready, status_ready, started, number_of, values_of, absent}
+use Rattle.session.specs.Bus.{Driver, Transfer, Answer, Condition, number_of, values_of, absent}
 use Rattle.session.specs.Instructions.{Stop, declines, wrong_device, wrong_address, wrong_argument, unready, panics, stop_answer, Verdict, onward, leap, stop, test, Op, write, read, wait, range, Final, success, failure, send_of}
 use Rattle.session.specs.Steps.{slot}
 use Rattle.session.specs.Calls.{ops_of, program_of}
 use Rattle.session.specs.Machine.{Session, Outcome, sent, answered, refused, broken, resting, held_by, context_of, sending, giving, conclude, enter, arrive, decide}
 use Rattle.session.specs.History.{Exchange, Standing, waiting, ended, CallRun}
-use Rattle.session.specs.Claim3.{limit_in, idle_reads, range_failure, Failures, budget_of_first, after_done, Lawful, floor_in}
-use Rattle.session.proofs.Facts.{cond_case, untrue, clash}
+use Rattle.session.specs.Claim3.{limit_in, idle_reads, range_failure, Failures, budget_of_first, after_done, floor_in}
+use Rattle.session.proofs.Lawful.{BothLaws}
+use Rattle.ground.proofs.Facts.{cond_case, untrue, clash}
 use Rattle.session.proofs.Good.{limit_positive, Good, Between, arrive_good, wait_left, between_skip}
 use Rattle.session.proofs.Laws.{FinalOk, final_law}
 use Rattle.session.proofs.Phase.{AllGood, Phase, clean, tidy0, tidy1, tidy2, good_any, phase_cleared, phase_waiting}
@@ -35,7 +36,7 @@ pub record Match (s : Session) (op : Op) (rest : List Op) (ex : List Exchange) (
   pub told : Told s.code (op ∷ rest) ex
   pub long : length s.carried ≡ 24
   pub traced : (t : Track) → Sound t s.code → Traced t s.carried (op ∷ rest) ex
-  pub owned : Owns s.code → Owned s.own s.carried (op ∷ rest) ex
+  pub owned : Owns s.code → Owned s.found_budget s.carried (op ∷ rest) ex
   pub floor : floor_in s.code ≤ length ex + least (op ∷ rest)
   pub phase : Phase s.code (op ∷ rest) ex
   pub driver : s.driver ≡ after_begun s.code d
@@ -44,7 +45,7 @@ pub record Match (s : Session) (op : Op) (rest : List Op) (ex : List Exchange) (
 pub record Ahead (s : Session) (k : ℕ) (ex : List Exchange) : Type 0 where
   pub told : Told s.code (drop k (ops_of (program_of s.code))) ex
   pub traced : (t : Track) → Sound t s.code → Traced t s.carried (drop k (ops_of (program_of s.code))) ex
-  pub owned : Owns s.code → Owned s.own s.carried (drop k (ops_of (program_of s.code))) ex
+  pub owned : Owns s.code → Owned s.found_budget s.carried (drop k (ops_of (program_of s.code))) ex
   pub floor : floor_in s.code ≤ length ex + least (drop k (ops_of (program_of s.code)))
 
 -- a session between a reply and the operation at position k
@@ -69,12 +70,12 @@ pub record FineSent (code a b : ℕ) (ex : List Exchange) (d : Driver) (t : Tran
   pub rest : List Op
   pub is : t ≡ send_of op (context_of s)
   pub match : Match s op rest ex d
-  pub lawful : Lawful (run_of code a b ex (waiting t))
+  pub lawful : BothLaws (run_of code a b ex (waiting t))
 
 pub record FineEnded (code a b : ℕ) (ex : List Exchange) (d : Driver) (x : Answer) (n : ℕ) (s : Session) : Type 0 where
   pub rests : s ≡ resting s.driver
   pub fields : s.driver ≡ cond (eqb (number_of x) 0) (after_done code a ex d) (after_begun code d)
-  pub lawful : Lawful (run_of code a b ex (ended x n))
+  pub lawful : BothLaws (run_of code a b ex (ended x n))
 
 -- what an outcome has to be, for a call with these exchanges
 abbrev pub Fine : ℕ → ℕ → ℕ → List Exchange → Driver → Outcome → Type 0
@@ -95,20 +96,20 @@ pub limit_some : (code : ℕ) (x : Condition) → 1 ≤ limit_in code x
 limit_some code x = rw (limit_is code x) (limit_positive code x)
 
 pub same_on_lem : (x y : Condition) → same_on x y ≡ true → x ≡ y
-same_on_lem detector_ready detector_ready e = refl
-same_on_lem detector_ready status_ready e = cc
-same_on_lem detector_ready started e = cc
-same_on_lem status_ready detector_ready e = cc
-same_on_lem status_ready status_ready e = refl
-same_on_lem status_ready started e = cc
-same_on_lem started detector_ready e = cc
-same_on_lem started status_ready e = cc
-same_on_lem started started e = refl
+same_on_lem Condition.DetectorReady Condition.DetectorReady e = refl
+same_on_lem Condition.DetectorReady Condition.StatusReady e = cc
+same_on_lem Condition.DetectorReady Condition.Started e = cc
+same_on_lem Condition.StatusReady Condition.DetectorReady e = cc
+same_on_lem Condition.StatusReady Condition.StatusReady e = refl
+same_on_lem Condition.StatusReady Condition.Started e = cc
+same_on_lem Condition.Started Condition.DetectorReady e = cc
+same_on_lem Condition.Started Condition.StatusReady e = cc
+same_on_lem Condition.Started Condition.Started e = refl
 
 pub on_self : (x : Condition) → same_on x x ≡ true
-on_self detector_ready = refl
-on_self status_ready = refl
-on_self started = refl
+on_self Condition.DetectorReady = refl
+on_self Condition.StatusReady = refl
+on_self Condition.Started = refl
 
 idle_zero : (b : Bool) → ◌≡◌ {A = ℕ} (cond b 0 0) 0
 idle_zero true = refl
@@ -116,16 +117,16 @@ idle_zero false = refl
 
 idle_below : (s : Session) (op : Op) (rest : List Op) → Good s op rest → (x : Condition) → cond (waits_on x op) s.idle 0 < limit_in s.code x
 idle_below s (write reg bytes len over after) rest g x = limit_some s.code x
-idle_below s (read reg len slot over after) rest g x = limit_some s.code x
+idle_below s (read reg len slot finds over after) rest g x = limit_some s.code x
 idle_below s (wait w) rest g x =
     cond_case (λ n. n < limit_in s.code x) (same_on x w)
     (λ e. rw (same_on_lem x w e, limit_is s.code w) (wait_left s w rest g)) (λ e. limit_some s.code x)
-idle_below s range rest g x = limit_some s.code x
+idle_below s (range reg len slot over) rest g x = limit_some s.code x
 
 -- the laws of a call whose newest exchange is no idle read
 pub lawful_ended : (s : Session) (k : ℕ) (ex : List Exchange) (d : Driver) → Mid s k ex d → (x : Answer) → eqb (number_of x) 4 ≡ false
     → Failures s.code [] ex (ended x s.transfers) → (eqb (number_of x) 0 ≡ true → floor_in s.code ≤ length ex)
-    → (eqb (number_of x) 0 ≡ true → s.code ≡ 15 → values_of x ≡ budget_of_first ex ∷ []) → Lawful (run_of s.code s.a s.b ex (ended x s.transfers))
+    → (eqb (number_of x) 0 ≡ true → s.code ≡ 15 → values_of x ≡ budget_of_first ex ∷ []) → BothLaws (run_of s.code s.a s.b ex (ended x s.transfers))
 lawful_ended s k ex d m x n f fl v =
     record {
       ceiling = omega (arith, m.count, m.between.bound, claim_ceiling s.code);
@@ -137,7 +138,7 @@ lawful_ended s k ex d m x n f fl v =
     }
 
 lawful_waiting : (s : Session) (op : Op) (rest : List Op) (ex : List Exchange) (d : Driver) → Match s op rest ex d
-    → Lawful (run_of s.code s.a s.b ex (waiting (send_of op (context_of s))))
+    → BothLaws (run_of s.code s.a s.b ex (waiting (send_of op (context_of s))))
 lawful_waiting s op rest ex d m =
     record {
       ceiling = omega (arith, m.count, m.good.bound, claim_ceiling s.code);
@@ -154,25 +155,25 @@ fine_waiting s op rest ex d m =
     record { same_code = refl; same_a = refl; same_b = refl; op = op; rest = rest; is = refl; match = m; lawful = lawful_waiting s op rest ex d m }
 
 -- the end of a call: with no failure, or after a failed range read and both clearing writes
-module _ (s : Session) (k : ℕ) (ex : List Exchange) (d : Driver) (m : Mid s k ex d) (tr : (t : Track) → Sound t s.code → Traced t s.carried [] ex) (ow : Owns s.code → Owned s.own s.carried [] ex) (fl : floor_in s.code ≤ length ex) where
+module _ (s : Session) (k : ℕ) (ex : List Exchange) (d : Driver) (m : Mid s k ex d) (tr : (t : Track) → Sound t s.code → Traced t s.carried [] ex) (ow : Owns s.code → Owned s.found_budget s.carried [] ex) (fl : floor_in s.code ≤ length ex) where
   clean_end : AllGood ex → (f : Final) → FinalOk s.code (context_of s) f → Fine s.code s.a s.b ex d (conclude f s)
   clean_end g (success v d') h =
       record {
         rests = refl;
-        fields = h.0 ∙ fields_shown s.code s.a s.carried s.own ex d (held_by s.code s.driver) tr ow (held_is s.code d s.driver m.driver);
-        lawful = lawful_ended s k ex d m (Answer.Done v) refl (good_any s.code [] ex _ g) (λ z. fl) (λ z e. ap (λ v. v ∷ []) (h.1 e ∙ value_15 s.carried s.own ex (subst (λ n. (t : Track) → Sound t n → Traced t s.carried [] ex) e tr) (subst (λ n. Owns n → Owned s.own s.carried [] ex) e ow)));
+        fields = h.0 ∙ fields_shown s.code s.a s.b m.between.args s.carried s.found_budget ex d (held_by s.code s.driver) tr ow (held_is s.code d s.driver m.driver);
+        lawful = lawful_ended s k ex d m (Answer.Done v) refl (good_any s.code [] ex _ g) (λ z. fl) (λ z e. ap (λ v. v ∷ []) (h.1 e ∙ value_15 s.carried s.found_budget ex (subst (λ n. (t : Track) → Sound t n → Traced t s.carried [] ex) e tr) (subst (λ n. Owns n → Owned s.found_budget s.carried [] ex) e ow)));
       }
   clean_end g (failure e) h = record { rests = refl; fields = held_is s.code d s.driver m.driver; lawful = lawful_ended s k ex d m (Answer.BusError e) refl (good_any s.code [] ex _ g) (λ h. untrue h) (λ h. untrue h) }
 
 pub end_fine : (s : Session) (k : ℕ) (ex : List Exchange) (d : Driver) → Mid s k ex d → ((t : Track) → Sound t s.code → Traced t s.carried [] ex)
-    → (Owns s.code → Owned s.own s.carried [] ex) → floor_in s.code ≤ length ex → Phase s.code [] ex → Fine s.code s.a s.b ex d (conclude ((program_of s.code).final (context_of s)) s)
+    → (Owns s.code → Owned s.found_budget s.carried [] ex) → floor_in s.code ≤ length ex → Phase s.code [] ex → Fine s.code s.a s.b ex d (conclude ((program_of s.code).final (context_of s)) s)
 end_fine s k ex d m tr ow fl (clean g) = clean_end s k ex d m tr ow fl g ((program_of s.code).final (context_of s)) (final_law s.code (context_of s))
-end_fine s k ex d m tr ow fl (tidy0 r adr e q g) = clash cc
-end_fine s k ex d m tr ow fl (tidy1 r adr e adr' bs q g) = clash cc
-end_fine s k ex d m tr ow fl (tidy2 {ex = ex'} r adr e adr' bs adr'' bs' q g) =
+end_fine s k ex d m tr ow fl (tidy0 r e q g) = clash cc
+end_fine s k ex d m tr ow fl (tidy1 r e adr' bs q g) = clash cc
+end_fine s k ex d m tr ow fl (tidy2 {ex = ex'} r e adr' bs adr'' bs' q g) =
     let h : s.failed ≡ suc e = m.failed ∙ ap (λ b. cond b (suc e) (range_failure s.code ex')) r.inside in
     rw (r.final (context_of s) e h)
-    (record { rests = refl; fields = held_is s.code d s.driver m.driver; lawful = lawful_ended s k ex d m (Answer.BusError (suc e)) refl (phase_cleared s.code s.transfers adr e adr' bs adr'' bs' ex' r g) (λ h. untrue h) (λ h. untrue h) })
+    (record { rests = refl; fields = held_is s.code d s.driver m.driver; lawful = lawful_ended s k ex d m (Answer.BusError (suc e)) refl (phase_cleared s.code s.transfers e adr' bs adr'' bs' ex' r g) (λ h. untrue h) (λ h. untrue h) })
 
 pub arrive_fine : (s : Session) (k : ℕ) (ex : List Exchange) (d : Driver) → Mid s k ex d → Fine s.code s.a s.b ex d (arrive (program_of s.code) k s)
 unfolding arrive

@@ -12,11 +12,11 @@ use Rattle.timing.specs.Places.{timeout_place, period_place, less_place, entries
 use Rattle.timing.specs.Timeouts.{timeout_clocks, period_clocks, pre_share, final_clocks, msrc_clocks, msrc_time, pre_time, final_time}
 use Rattle.clock.specs.Clock.{decoded_timeout, decoded_vcsel_period, microseconds_of}
 use Rattle.session.specs.Bus.{Driver}
-use Rattle.session.specs.Calls.{tuning, programs, program_of, default_address, ceilings, ceiling_of, greatest, arguments_ok}
+use Rattle.session.specs.Calls.{tuning, programs, program_of, default_address, ceiling_of, arguments_ok}
 use Rattle.session.specs.Machine.{arrive, stray, malformed, reply_def, begin_def, other_def}
-use Rattle.session.specs.Records.{call, reply, other, call_bytes, reply_bytes, records_of, step_def}
+use Rattle.session.specs.Records.{call, reply, other, call_bytes, reply_bytes, records_of}
 use Rattle.session.specs.RustBringUp.{new, calls, rust}
-use Rattle.session.specs.History.{run_from, run_records, run_def}
+use Rattle.session.specs.History.{step_def, run_from, run_records, run_def}
 use Rattle.session.specs.Bench.{AnswerValues, CarriedPlaces, HeldValues, EdgeValues, SessionValues}
 
 answer_values : AnswerValues
@@ -40,7 +40,7 @@ answer_values = record {
 }
 
 carried_places : CarriedPlaces
-unfolding reply_def malformed stray arrive program_of programs tuning greatest arguments_ok ceilings ceiling_of decoded_timeout decoded_vcsel_period microseconds_of timeout_clocks period_clocks pre_share final_clocks msrc_clocks msrc_time pre_time final_time timeout_place period_place less_place entries_of first_match first_place dss_or_msrc step_sum budget_sum measurement_timing_budget
+unfolding reply_def malformed stray arrive program_of programs tuning arguments_ok ceiling_of decoded_timeout decoded_vcsel_period microseconds_of timeout_clocks period_clocks pre_share final_clocks msrc_clocks msrc_time pre_time final_time timeout_place period_place less_place entries_of first_match first_place dss_or_msrc step_sum budget_sum measurement_timing_budget
 carried_places = record {
   pre_before_final = refl;
   final_before_period = refl;
@@ -54,15 +54,15 @@ carried_places = record {
 }
 
 held_values : HeldValues
-unfolding reply_def malformed stray arrive program_of programs tuning greatest arguments_ok ceilings ceiling_of
+unfolding reply_def malformed stray arrive program_of programs tuning arguments_ok ceiling_of
 held_values = record { any_address = refl; twelve_bits = refl; short_budget = refl; no_period = refl; no_period_mode = refl; pair = refl; at_ceiling = refl; over_ceiling = refl }
 
 edge_values : EdgeValues
-unfolding step_def begin_def malformed arrive program_of programs tuning greatest arguments_ok ceilings ceiling_of signal_rate_limit_word rate_of in_range literal round units odd size climb span of_bits of_fields le lt eq
+unfolding step_def begin_def malformed arrive program_of programs tuning arguments_ok ceiling_of signal_rate_limit_word rate_of in_range literal round units odd size climb span of_bits of_fields le lt eq
 edge_values = record { codes = refl; addresses = refl; thresholds = refl; gpio = refl; long = refl; unused = refl }
 
 pub session_values : SessionValues
-unfolding run_def run_records records_of run_from step_def begin_def reply_def other_def malformed stray arrive program_of programs tuning greatest arguments_ok ceilings ceiling_of
+unfolding run_def run_records records_of run_from step_def begin_def reply_def other_def malformed stray arrive program_of programs tuning arguments_ok ceiling_of
 session_values = record {
   answers = answer_values;
   carried = carried_places;

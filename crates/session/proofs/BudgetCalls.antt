@@ -12,11 +12,10 @@ use Rattle.std.specs.Prelude.{None}
 use Rattle.timing.specs.Registers.{sequence_step_enables, when_on}
 use Rattle.timing.specs.Timeouts.{time_in, timeout_clocks, pre_share}
 use Rattle.timing.specs.Places.{first_place}
-use Rattle.budget.specs.declared.DssTerm.{DssTerm}
 use Rattle.budget.specs.Sums.{budget_sum, used_sum}
 use Rattle.budget.specs.Budget.{measurement_timing_budget, word_of_sum, word_within, final_range_word}
 use Rattle.session.specs.Bus.{Answer}
-use Rattle.session.specs.Steps.{word_in}
+use Rattle.session.specs.Steps.{dss_of_call9, word_in}
 use Rattle.session.specs.RustFn.{ok, err, Fn, ◌>>=◌, ◌>>◌, Ok, panic, if, set_self_budget, write_16bit}
 use Rattle.session.specs.RustClocks.{over_u32, encode_timeout, calc_macro_period, timeout_microseconds_to_mclks, add_if}
 use Rattle.session.specs.RustCalls.{Enables, Timeouts, budget_microseconds, use_budget_microseconds, get_measurement_timing_budget, set_budget_from_reads, set_measurement_timing_budget}
@@ -32,7 +31,7 @@ pub budget_of : (r : TimingRegisters) → budget_microseconds (enables_in r) (ti
 unfolding budget_sum
 budget_of r = rw (budget_is, bit_on_is)
 
-pub used_of : (r : TimingRegisters) → use_budget_microseconds (enables_in r) (timeouts_in r) ≡ (used_sum r DssTerm.Once).0
+pub used_of : (r : TimingRegisters) → use_budget_microseconds (enables_in r) (timeouts_in r) ≡ (used_sum r dss_of_call9).0
 unfolding used_sum
 used_of r = rw (used_is, bit_on_is)
 
@@ -46,28 +45,28 @@ get_is =
 
 abbrev pub write_final : TimingRegisters → ℕ → Fn Bool
 write_final r budget = do
-  write_16bit 0x71 (word_in (final_range_word r (record { 0 = budget }) DssTerm.Once))
+  write_16bit 0x71 (word_in (final_range_word r (record { 0 = budget }) dss_of_call9))
   set_self_budget budget
   Ok true
 
 abbrev pub tested : TimingRegisters → ℕ → Fn Bool
 tested r budget chip ret =
-    cond (ltb budget (used_sum r DssTerm.Once).0) (ret (ok false) chip)
-    (cond (ltb 4294967295 (spare_sum r budget)) (ret (err (Answer.Panic 7)) chip)
+    cond (ltb budget (used_sum r dss_of_call9).0) (ret (ok false) chip)
+    (cond (ltb 4294967295 (spare_sum dss_of_call9 r budget)) (ret (err (Answer.Panic 7)) chip)
     (cond (eqb (final_macro r) 0) (ret (err (Answer.Panic 8)) chip)
-    (cond (ltb 65535 (total_clocks r budget)) (ret (err (Answer.Panic 9)) chip)
+    (cond (ltb 65535 (total_clocks dss_of_call9 r budget)) (ret (err (Answer.Panic 9)) chip)
     (write_final r budget chip ret))))
 
 -- once the tests are passed
 final_word : (r : TimingRegisters) (budget : ℕ)
     → first_place r 6 ≡ None
-    → ltb budget (used_sum r DssTerm.Once).0 ≡ false
-    → ltb 4294967295 (spare_sum r budget) ≡ false
+    → ltb budget (used_sum r dss_of_call9).0 ≡ false
+    → ltb 4294967295 (spare_sum dss_of_call9 r budget) ≡ false
     → eqb (final_macro r) 0 ≡ false
-    → ltb 65535 (total_clocks r budget) ≡ false
-    → encode_timeout (total_clocks r budget) ≡ word_in (final_range_word r (record { 0 = budget }) DssTerm.Once)
+    → ltb 65535 (total_clocks dss_of_call9 r budget) ≡ false
+    → encode_timeout (total_clocks dss_of_call9 r budget) ≡ word_in (final_range_word r (record { 0 = budget }) dss_of_call9)
 unfolding final_range_word word_within mclks_of word_of_sum
-final_word r budget h e₁ e₂ e₃ e₄ = rw (h, e₁, e₂, e₃, e₄) (encode_is (total_clocks r budget) (omega (arith, ltb-false 65535 (total_clocks r budget) e₄)))
+final_word r budget h e₁ e₂ e₃ e₄ = rw (h, e₁, e₂, e₃, e₄) (encode_is (total_clocks dss_of_call9 r budget) (omega (arith, ltb-false 65535 (total_clocks dss_of_call9 r budget) e₄)))
 
 -- the product is at most the sum, so one test serves both
 clocks_is : timeout_microseconds_to_mclks
@@ -99,13 +98,13 @@ tests_are : (r : TimingRegisters) (budget : ℕ) → first_place r 6 ≡ None �
 unfolding pre_share
 tests_are r budget h = fun_ext (λ chip. fun_ext (λ ret.
     rw (used_of r, clocks_is, bit_on_is)
-    (cond_both (ltb budget (used_sum r DssTerm.Once).0) (λ e. refl)
-    (λ e₁. cond_both (ltb 4294967295 (spare_sum r budget)) (λ e. refl)
+    (cond_both (ltb budget (used_sum r dss_of_call9).0) (λ e. refl)
+    (λ e₁. cond_both (ltb 4294967295 (spare_sum dss_of_call9 r budget)) (λ e. refl)
     (λ e₂. cond_both (eqb (final_macro r) 0) (λ e. refl)
     (λ e₃.
-    let n = spare_sum r budget / final_macro r % 65536 in
+    let n = spare_sum dss_of_call9 r budget / final_macro r % 65536 in
     rw (add_is (sequence_step_enables r.sequence).prerange n (timeout_clocks r.pretimeout).0 (omega arith))
-    (cond_both (ltb 65535 (total_clocks r budget)) (λ e. refl)
+    (cond_both (ltb 65535 (total_clocks dss_of_call9 r budget)) (λ e. refl)
     (λ e₄. rw (final_word r budget h e₁ e₂ e₃ e₄)))))))))
 
 pub rest_is : set_budget_from_reads ≡ (λ budget. six (λ r. tested r budget))

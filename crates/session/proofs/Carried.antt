@@ -10,11 +10,13 @@ use borrow.Author.Tests.{ne_eqb}
 use lib.ListN.{drop}
 use Rattle.rate.specs.Rate.{signal_rate_limit_word}
 use Rattle.session.specs.Bus.{Driver, Answer, good, zero_from}
+use Rattle.session.specs.declared.Setting.{Setting}
 use Rattle.session.specs.Instructions.{Instruction, range_slot, bytes_from, send_of}
 use Rattle.session.specs.Steps.{slot_word, rate_in, period_too_long, op_of}
 use Rattle.session.specs.Calls.{tuning, by_code, finishes, range_result, programs, program_of}
 use Rattle.session.specs.Machine.{Session, answered, resting, held_by, context_of, kept_of, conclude, arrive, react, stray, outstanding}
-use Rattle.session.specs.Records.{reply, step_def}
+use Rattle.session.specs.Records.{reply}
+use Rattle.session.specs.History.{step_def}
 use Rattle.session.specs.Refusals.{Underway}
 use Rattle.session.specs.RustClocks.{limit_contained, limit_word}
 use Rattle.session.specs.AnySession.{limit_sent, word_at, range_answer, CarriedWrites, CarriedAnswers, GoesOnAt, NoPeriod}
@@ -122,7 +124,7 @@ carried_answers s bs u long clean = (
               (
                 at_last s bs u clean 8 12 (Instruction.Write 0x0B 0x00) _ _ refl (λ e e'. rw (e, e') (rw (e, e') at (range_is s))),
                 (
-                  at_last s bs u clean 9 6 (Instruction.WriteWord 8) _ _ refl (λ e e'. rw (e, e') refl),
+                  at_last s bs u clean 9 6 (Instruction.WriteWord 8 Setting.Asked) _ _ refl (λ e e'. rw (e, e') refl),
                   (
                     at_last s bs u clean 10 1 Instruction.WriteHigh _ _ refl (λ e e'. rw (e, e') refl),
                     (

@@ -10,7 +10,8 @@ use lib.Dec.{T}
 use Rattle.session.specs.Bus.{Condition}
 use Rattle.session.specs.Machine.{fresh_session}
 use Rattle.session.specs.History.{run_def, Exchange, calls_of, transfers_of}
-use Rattle.session.specs.Claim3.{ceiling_in, floor_in, read_of, idle_reply, idle_reads, All, Lawful, LastIdle, BringUpCount}
+use Rattle.session.specs.Claim3.{ceiling_in, floor_in, read_of, idle_reply, idle_reads, All, Lawful, LawfulBeyond, LastIdle, BringUpCount}
+use Rattle.session.proofs.Lawful.{all_two}
 use Rattle.session.proofs.Demand3.{demand_3}
 
 pub last_idle : (n : ℕ) (x : Condition) (code : ℕ) (es : List Exchange) → (n ≤ idle_reads x code es) ↔ LastIdle n x code es
@@ -23,13 +24,9 @@ last_idle (suc n) x code (e ∷ es) = go (read_of x code e.sent es && idle_reply
     go true ih = (λ h. (tt, ih.0 (le_of_suc-le-suc h)), λ h. omega (arith, ih.1 h.1))
     go false ih = (λ h. absurd (not-suc-le-zero h), λ h. absurd h.0)
 
-all_map : {A : Type 0} (P Q : A → Type 0) → ((a : A) → P a → Q a) → (l : List A) → All P l → All Q l
-all_map P Q f [] h = tt
-all_map P Q f (a ∷ l) h = (f a h.0, all_map P Q f l h.1)
-
 pub bring_up_count : (bytes : List ℕ) → All BringUpCount (calls_of (run_def fresh_session bytes).history)
 unfolding floor_in ceiling_in
 bring_up_count bytes =
-    all_map Lawful BringUpCount
-    (λ c h e d. (subst (λ n. floor_in n ≤ transfers_of c) e (h.floor d), subst (λ n. transfers_of c ≤ ceiling_in n) e h.ceiling))
-    (calls_of (run_def fresh_session bytes).history) (demand_3 bytes).calls
+    all_two Lawful LawfulBeyond BringUpCount
+    (λ c h k e d. (subst (λ n. floor_in n ≤ transfers_of c) e (k.floor d), subst (λ n. transfers_of c ≤ ceiling_in n) e h.ceiling))
+    (calls_of (run_def fresh_session bytes).history) (demand_3 bytes).demand.calls (demand_3 bytes).beyond.calls

@@ -7,7 +7,7 @@ use native.Mathlib.Omega.{arith}
 use native.Mathlib.Nat.{not-suc-le-zero, le_of_suc-le-suc}
 use lib.Dec.{eqb}
 use lib.ListN.{take, drop}
-use Rattle.session.specs.Bus.{Transfer, byte, Condition, detector_ready, status_ready, started, idle_on, zero_from, clean_from}
+use Rattle.session.specs.Bus.{Transfer, byte, Condition, idle_on, zero_from, clean_from}
 use Rattle.session.specs.Instructions.{Op, write, read, wait, range, bytes_from, send_of}
 use Rattle.session.specs.Steps.{slot}
 use Rattle.session.specs.Calls.{Program}
@@ -38,21 +38,19 @@ bytes_take i (suc n) m bs h = rw (byte_take i m bs (omega (arith, h)), bytes_tak
 
 idle_take : (x : Condition) (bs : List ℕ) → idle_on x (take 1 bs) ≡ idle_on x bs
 unfolding idle_on
-idle_take detector_ready [] = refl
-idle_take detector_ready (b ∷ bs) = refl
-idle_take status_ready [] = refl
-idle_take status_ready (b ∷ bs) = refl
-idle_take started [] = refl
-idle_take started (b ∷ bs) = refl
+idle_take Condition.DetectorReady [] = refl
+idle_take Condition.DetectorReady (b ∷ bs) = refl
+idle_take Condition.StatusReady [] = refl
+idle_take Condition.StatusReady (b ∷ bs) = refl
+idle_take Condition.Started [] = refl
+idle_take Condition.Started (b ∷ bs) = refl
 
 pub react_cut : (op : Op) (p : Program) (s : Session) (f : ℕ) (bs : List ℕ) → react op p s (to_reply f bs) ≡ react op p s (cut (send_of op (context_of s)) f bs)
 react_cut (write reg bytes len over after) p s zero bs = refl
 react_cut (write reg bytes len over after) p s (suc e) bs = refl
-react_cut (read reg len slot over after) p s zero bs = rw (bytes_take 0 len len bs (omega arith))
-react_cut (read reg len slot over after) p s (suc e) bs = refl
+react_cut (read reg len slot finds over after) p s zero bs = rw (bytes_take 0 len len bs (omega arith))
+react_cut (read reg len slot finds over after) p s (suc e) bs = refl
 react_cut (wait w) p s zero bs = rw (idle_take w bs)
 react_cut (wait w) p s (suc e) bs = refl
-react_cut range p s zero [] = refl
-react_cut range p s zero (x ∷ []) = refl
-react_cut range p s zero (x ∷ y ∷ bs) = refl
-react_cut range p s (suc e) bs = refl
+react_cut (range reg len slot over) p s zero bs = rw (bytes_take 0 len len bs (omega arith))
+react_cut (range reg len slot over) p s (suc e) bs = refl

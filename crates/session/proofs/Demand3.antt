@@ -1,4 +1,4 @@
--- Demand 3: one claim about every list of records that is run from a fresh session.
+-- Demand 3: one claim about every list of records that is run from a fresh session, and what is beyond it.
 use mathlib.Core.Path.{◌≡◌, refl, ap, ◌∙◌, sym}
 use mathlib.Core.Bool.{true, false}
 use mathlib.Core.List.{List, [], ◌∷◌}
@@ -10,12 +10,13 @@ use borrow.Author.Tests.{eqb-false}
 use Rattle.session.specs.Bus.{Driver, Answer, Reply}
 use Rattle.session.specs.Instructions.{Op, send_of}
 use Rattle.session.specs.Machine.{Session, Outcome, sent, answered, refused, broken, resting, fresh_session, context_of, to_reply, ill_formed}
-use Rattle.session.specs.Records.{Record, call, reply, other, records_of, is_whole, step_def}
-use Rattle.session.specs.History.{Got, transfer, answer, refusal, Entry, is_transfer, is_answer, is_refused, is_accepted_call, calls_in, answers_in, replies_in, transfers_in, refused_in, counts_of, Run, stopped, taking, run_from, run_records, run_def, got_of, session_of, session_after, Genuine, in_order, Exchange, Standing, waiting, ended, CallRun, replied, joined, calls_of, is_waiting, waiting_in, transfers_of}
-use Rattle.session.specs.Claim3.{of_waiting, Demand3}
-use Rattle.session.proofs.Facts.{cond_case}
+use Rattle.session.specs.Records.{Record, call, reply, other, records_of, is_whole}
+use Rattle.session.specs.History.{step_def, Got, transfer, answer, refusal, Entry, is_transfer, is_answer, is_refused, is_accepted_call, calls_in, answers_in, replies_in, transfers_in, refused_in, counts_of, Run, stopped, taking, run_from, run_records, run_def, got_of, session_of, session_after, Genuine, in_order, Exchange, Standing, waiting, ended, CallRun, replied, joined, calls_of, is_waiting, waiting_in, transfers_of}
+use Rattle.session.specs.Claim3.{of_waiting, Both3}
+use Rattle.ground.proofs.Facts.{cond_case}
 use Rattle.session.proofs.Good.{code_test, good_sound}
 use Rattle.session.proofs.Runs.{genuine_more}
+use Rattle.session.proofs.Lawful.{lawful, lawful_beyond}
 use Rattle.session.proofs.Up.{up_is, fields_are, down}
 use Rattle.session.proofs.Arrivals.{Match, run_of}
 use Rattle.session.proofs.Keeps.{Now, rests, waits, Inv, Step, StepOk, step_ok}
@@ -121,7 +122,7 @@ eight_each (a ∷ b ∷ c ∷ d ∷ e ∷ f ∷ g ∷ i ∷ l) h =
     omega (arith, eight_each l z)
 
 -- the records of a whole list
-of_records : (bytes : List ℕ) → is_whole bytes ≡ true → Demand3 bytes (run_records fresh_session (records_of bytes))
+of_records : (bytes : List ℕ) → is_whole bytes ≡ true → Both3 bytes (run_records fresh_session (records_of bytes))
 unfolding run_records
 of_records bytes e =
     let rs = records_of bytes in
@@ -129,58 +130,60 @@ of_records bytes e =
     let h = (run_from fresh_session rs fresh_session []).history in
     let i = q.laws.inv in
     record {
-      sum = i.sum;
-      calls = i.lawful;
-      up = ap (λ z. z.up) i.driver ∙ up_is (calls_of h);
-      fields = i.driver ∙ fields_are (calls_of h) i.begun_up;
-      absent_while_down = λ d. i.driver ∙ fields_are (calls_of h) i.begun_up ∙ down (calls_of h) d;
-      answer = rw e q.answered;
-      records = rw e q.records;
-      eights = λ z. eight_each bytes z ∙ ap (λ n. 8 * n) (sym (q.whole ∙ omega arith));
-      tallied = q.tallied;
-      counted = q.laws.counts;
-      begun = length_calls h;
-      answers = omega (arith, all_of h, q.laws.counts, i.sum);
-      made = i.made;
-      heard = i.heard;
-      one = at_most_one _ i.now;
-      begun_up = i.begun_up;
-      genuine = q.laws.genuine;
-      session = q.laws.here;
-      code = of_waiting_lem (λ c. c.code) _ (λ z. z.code) (calls_of h) refl (λ op rest ex d m. refl) i.now;
-      a = of_waiting_lem (λ c. c.a) _ (λ z. z.a) (calls_of h) refl (λ op rest ex d m. refl) i.now;
-      b = of_waiting_lem (λ c. c.b) _ (λ z. z.b) (calls_of h) refl (λ op rest ex d m. refl) i.now;
-      transfers = of_waiting_lem transfers_of _ (λ z. z.transfers) (calls_of h) refl (λ op rest ex d m. omega (arith, m.count)) i.now;
+      demand = record { sum = i.sum; calls = lawful (calls_of h) i.lawful; up = ap (λ z. z.up) i.driver ∙ up_is (calls_of h); fields = i.driver ∙ fields_are (calls_of h) i.begun_up };
+      beyond =
+          record {
+            answer = rw e q.answered;
+            records = rw e q.records;
+            eights = λ z. eight_each bytes z ∙ ap (λ n. 8 * n) (sym (q.whole ∙ omega arith));
+            genuine = q.laws.genuine;
+            session = q.laws.here;
+            tallied = q.tallied;
+            counted = q.laws.counts;
+            begun = length_calls h;
+            answers = omega (arith, all_of h, q.laws.counts, i.sum);
+            made = i.made;
+            heard = i.heard;
+            one = at_most_one _ i.now;
+            begun_up = i.begun_up;
+            calls = lawful_beyond (calls_of h) i.lawful;
+            absent_while_down = λ d. i.driver ∙ fields_are (calls_of h) i.begun_up ∙ down (calls_of h) d;
+            code = of_waiting_lem (λ c. c.code) _ (λ z. z.code) (calls_of h) refl (λ op rest ex d m. refl) i.now;
+            a = of_waiting_lem (λ c. c.a) _ (λ z. z.a) (calls_of h) refl (λ op rest ex d m. refl) i.now;
+            b = of_waiting_lem (λ c. c.b) _ (λ z. z.b) (calls_of h) refl (λ op rest ex d m. refl) i.now;
+            transfers = of_waiting_lem transfers_of _ (λ z. z.transfers) (calls_of h) refl (λ op rest ex d m. omega (arith, m.count)) i.now;
+          };
     }
 
 -- spare bytes: nothing is run
-of_spare : (bytes : List ℕ) → is_whole bytes ≡ false → Demand3 bytes (stopped Answer.SpareBytes fresh_session)
+of_spare : (bytes : List ℕ) → is_whole bytes ≡ false → Both3 bytes (stopped Answer.SpareBytes fresh_session)
 of_spare bytes e =
     record {
-      sum = refl;
-      calls = tt;
-      up = refl;
-      fields = refl;
-      absent_while_down = λ d. refl;
-      answer = rw e;
-      records = rw e;
-      eights = λ z. absurd (eqb-false (length bytes % 8) 0 e z);
-      tallied = refl;
-      counted = refl;
-      begun = refl;
-      answers = refl;
-      made = refl;
-      heard = refl;
-      one = zero-le;
-      begun_up = tt;
-      genuine = tt;
-      session = refl;
-      code = refl;
-      a = refl;
-      b = refl;
-      transfers = refl;
+      demand = record { sum = refl; calls = tt; up = refl; fields = refl };
+      beyond =
+          record {
+            answer = rw e;
+            records = rw e;
+            eights = λ z. absurd (eqb-false (length bytes % 8) 0 e z);
+            genuine = tt;
+            session = refl;
+            tallied = refl;
+            counted = refl;
+            begun = refl;
+            answers = refl;
+            made = refl;
+            heard = refl;
+            one = zero-le;
+            begun_up = tt;
+            calls = tt;
+            absent_while_down = λ d. refl;
+            code = refl;
+            a = refl;
+            b = refl;
+            transfers = refl;
+          };
     }
 
-pub demand_3 : (bytes : List ℕ) → Demand3 bytes (run_def fresh_session bytes)
+pub demand_3 : (bytes : List ℕ) → Both3 bytes (run_def fresh_session bytes)
 unfolding run_def
-demand_3 bytes = cond_case (Demand3 bytes) (is_whole bytes) (λ e. of_records bytes e) (λ e. of_spare bytes e)
+demand_3 bytes = cond_case (Both3 bytes) (is_whole bytes) (λ e. of_records bytes e) (λ e. of_spare bytes e)

@@ -10,14 +10,14 @@ use lib.ListN.{drop}
 use Rattle.std.specs.Prelude.{None}
 use Rattle.timing.specs.Places.{first_place}
 use Rattle.session.specs.Bus.{Transfer, Answer, Reply, bad, good, wait_limit, idle_on}
-use Rattle.session.specs.Instructions.{Instruction, Context, Op, write, read, wait, range, Final, bytes_from, timing_in, send_of}
-use Rattle.session.specs.Steps.{slot, by_word, budget_to_set, word_to_set, no_time, over_last, timing_length, op_of}
+use Rattle.session.specs.Instructions.{Instruction, Context, Op, write, read, wait, range, Final, timing_slot, bytes_from, timing_in, send_of}
+use Rattle.session.specs.Steps.{slot, by_word, dss_of_call9, budget_to_set, word_to_set, no_time, over_last, timing_length, op_of}
 use Rattle.session.specs.Calls.{ops_of, tuning, programs, program_of}
 use Rattle.session.specs.Script.{Script, done, send, on_reply, wait_loop}
-use Rattle.session.proofs.Facts.{both, clash}
+use Rattle.ground.proofs.Facts.{both, clash}
 use Rattle.session.proofs.Table.{of_test}
 use Rattle.session.specs.AnySession.{keeping, failing, resume}
-use Rattle.session.proofs.Once.{Kind, timing, last, other, kind_of, once_by, once_of}
+use Rattle.session.proofs.Once.{Kind, timing, found, last, other, kind_of, once_by, once_of}
 use Rattle.session.proofs.Tests.{none_known, first_agrees, word_agrees, place_same, verdict_same}
 use Rattle.session.proofs.Later.{later_stays}
 
@@ -28,7 +28,8 @@ Clear m j c = first_place (timing_in j c.carried) m ≡ None
 -- instructions none of which makes tests again
 abbrev is_other : {i : Instruction} → Kind i → Bool
 is_other (timing n k) = false
-is_other (last k) = false
+is_other found = false
+is_other (last k x) = false
 is_other other = true
 
 abbrev plain : List Instruction → Bool
@@ -42,9 +43,9 @@ plain_after (suc n) is = plain (drop (suc n) is)
 
 abbrev pub over_of : Op → ℕ
 over_of (write reg bytes len over after) = over
-over_of (read reg len slot over after) = over
+over_of (read reg len slot finds over after) = over
 over_of (wait x) = 0
-over_of range = 0
+over_of (range reg len slot over) = over
 
 -- the n-th read from slot k on comes right after the one before it
 abbrev follows : ℕ → ℕ → ℕ → ℕ → Bool
@@ -55,18 +56,21 @@ follows (suc (suc i)) k m j = eqb m (suc i) && (eqb j k && leb m 5)
 -- an instruction fits in where the first m replies from slot j on are clear
 abbrev fits : {i : Instruction} → ℕ → ℕ → Kind i → List Instruction → Bool
 fits m j (timing n k) is = follows n k m j
-fits m j (last k) is = follows 6 k m j && plain_after (over_last k) is
+fits m j found is = follows 6 timing_slot m j
+fits m j (last k x) is = follows 6 k m j && plain_after (over_last x) is
 fits m j (other {i}) is = plain_after (over_of (op_of i)) is
 
 -- what is clear after it
 abbrev replies_by : {i : Instruction} → Kind i → ℕ
 replies_by (timing n k) = n
-replies_by (last k) = 0
+replies_by found = 6
+replies_by (last k x) = 0
 replies_by other = 0
 
 abbrev slot_by : {i : Instruction} → Kind i → ℕ
 slot_by (timing n k) = k
-slot_by (last k) = 0
+slot_by found = timing_slot
+slot_by (last k x) = 0
 slot_by other = 0
 
 -- each of the list fits in
@@ -98,7 +102,8 @@ plain_same (i ∷ is) h =
   where
     one : {i : Instruction} (x : Kind i) → is_other x ≡ true → op_of i ≡ once_by x
     one (timing n k) q = clash cc
-    one (last k) q = clash cc
+    one found q = clash cc
+    one (last k x) q = clash cc
     one other q = refl
 
 send_same : (t : Transfer) (fail : ℕ → Script) {g g' : List ℕ → Script} → ((bs : List ℕ) → g bs ≡ g' bs)
@@ -128,20 +133,20 @@ module _ (fin : Context → Final) where
       → resume fin zero (op ∷ map op_of is) c ≡ resume fin zero (op ∷ map once_of is) c
   other_same (write reg bytes len over after) is c h s =
       send_same _ _ (λ bs. verdict_same (after c) over c _ _ (s c) (leap_same over is c h (s c)))
-  other_same (read reg len slot over after) is c h s =
+  other_same (read reg len slot finds over after) is c h s =
       send_same _ _
       (λ bs.
-      let c' : Context = keeping c (read reg len slot over after) (good bs) in
+      let c' : Context = keeping c (read reg len slot finds over after) (good bs) in
       verdict_same (after c') over c' _ _ (s c') (leap_same over is c' h (s c')))
   other_same (wait x) is c h s =
       ap (wait_loop (wait_limit c.code x) (send_of (wait x) c) (idle_on x) (failing c) (done Answer.Timeout c.driver)) (s c)
-  other_same range is c h s = ap (send (send_of range c)) (fun_ext go)
+  other_same (range reg len slot over) is c h s = ap (send (send_of (range reg len slot over) c)) (fun_ext go)
     where
       go : (r : Reply)
-          → on_reply r (λ e. resume fin zero (map op_of is) (keeping c range (bad e))) (λ bs. resume fin zero (map op_of is) (keeping c range (good bs)))
-          ≡ on_reply r (λ e. resume fin zero (map once_of is) (keeping c range (bad e))) (λ bs. resume fin zero (map once_of is) (keeping c range (good bs)))
-      go (bad e) = s (keeping c range (bad e))
-      go (good bs) = s (keeping c range (good bs))
+          → on_reply r (λ e. resume fin over (map op_of is) (keeping c (range reg len slot over) (bad e))) (λ bs. resume fin zero (map op_of is) (keeping c (range reg len slot over) (good bs)))
+          ≡ on_reply r (λ e. resume fin over (map once_of is) (keeping c (range reg len slot over) (bad e))) (λ bs. resume fin zero (map once_of is) (keeping c (range reg len slot over) (good bs)))
+      go (bad e) = let c' : Context = keeping c (range reg len slot over) (bad e) in leap_same over is c' h (s c')
+      go (good bs) = s (keeping c (range reg len slot over) (good bs))
 
   -- one instruction
   step_same : {i : Instruction} (x : Kind i) (is : List Instruction) (m j : ℕ) (c : Context) → fits m j x is ≡ true → Clear m j c
@@ -154,14 +159,20 @@ module _ (fin : Context → Final) where
       let c' : Context = keeping c (op_of (Instruction.ReadTiming (suc n) k)) (good bs) in
       place_same (first_place (timing_in k c'.carried) (suc n)) 0 c' _ _ (λ e. s c' e)
       ∙ first_agrees (timing_in k c'.carried) n (stays n k m j c bs h p) 0 c' _)
-  step_same (last k) is m j c h p s =
-      let q = both (follows 6 k m j) (plain_after (over_last k) is) h in
+  step_same found is m j c h p s =
       send_same _ _
       (λ bs.
-      let c' : Context = keeping c (op_of (Instruction.ReadLast k)) (good bs) in
+      let c' : Context = keeping c (op_of Instruction.FindBudget) (good bs) in
+      place_same (first_place (timing_in timing_slot c'.carried) 6) 0 c' _ _ (λ e. s c' e)
+      ∙ first_agrees (timing_in timing_slot c'.carried) 5 (stays 5 timing_slot m j c bs h p) 0 c' _)
+  step_same (last k x) is m j c h p s =
+      let q = both (follows 6 k m j) (plain_after (over_last x) is) h in
+      send_same _ _
+      (λ bs.
+      let c' : Context = keeping c (op_of (Instruction.ReadLast k x)) (good bs) in
       let t : Same is c' = s c' (none_known _) in
-      verdict_same (by_word (no_time k) (word_to_set k c')) (over_last k) c' _ _ t (leap_same (over_last k) is c' q.1 t)
-      ∙ word_agrees (no_time k) (timing_in k c'.carried) (budget_to_set k c') (stays 5 k m j c bs q.0 p) (over_last k) c' _)
+      verdict_same (by_word (no_time x) (word_to_set k x c')) (over_last x) c' _ _ t (leap_same (over_last x) is c' q.1 t)
+      ∙ word_agrees dss_of_call9 (no_time x) (timing_in k c'.carried) (budget_to_set x c') (stays 5 k m j c bs q.0 p) (over_last x) c' _)
   step_same (other {i}) is m j c h p s = other_same (op_of i) is c h (λ c'. s c' (none_known _))
 
   pub once : (is : List Instruction) (m j : ℕ) (c : Context) → ordered m j is ≡ true → Clear m j c → Same is c

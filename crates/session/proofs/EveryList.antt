@@ -8,7 +8,7 @@ use Rattle.session.specs.Bus.{Transfer, Answer, Reply, wait_limit, idle_on}
 use Rattle.session.specs.Instructions.{Context, Op, write, read, wait, range, Final, send_of}
 use Rattle.session.specs.Calls.{program_of}
 use Rattle.session.specs.Machine.{Session, Outcome, sent, answered, refused, broken, context_of, react, to_reply, stray, reply_def}
-use Rattle.session.specs.Records.{step_def}
+use Rattle.session.specs.History.{step_def}
 use Rattle.session.specs.Script.{Script, done, send, wait_loop, Raw, data_of, is_clean, cut, Trace, sends, refuses, waits, shown, heard, play}
 use Rattle.session.specs.AnySession.{failing, resume, resume_in, left, hears, StandsAt}
 use Rattle.session.specs.Claim2.{follows, drive}
@@ -33,9 +33,9 @@ left_is s op rest g = rw g.at
 
 has_reads : (s : Session) (op : Op) (rest : List Op) → Good s op rest → HasReads s.code s.idle op
 has_reads s (write reg bytes len over after) rest g = tt
-has_reads s (read reg len slot over after) rest g = tt
+has_reads s (read reg len slot finds over after) rest g = tt
 has_reads s (wait w) rest g = wait_left s w rest g
-has_reads s range rest g = tt
+has_reads s (range reg len slot over) rest g = tt
 
 -- an outcome is seen as the script where it stands
 pub stands_same : (rs : List Raw) → Claim rs → (s : Session) (o : Outcome) (x : Script) → StandsAt s o x → GoodOut o → drive rs o ≡ play x rs
@@ -68,7 +68,7 @@ into : (fin : Context → Final) (i : ℕ) (op : Op) (rest : List Op) (c : Conte
     ≡ taken (send_of op c) r (play (hears (resume_in fin i op rest c) (cut (send_of op c) r.failure (data_of r))) rs) (heard (resume_in fin i op rest c) rs)
 unfolding heard play wait_loop
 into fin i (write reg bytes len over after) rest c r rs h = refl
-into fin i (read reg len slot over after) rest c r rs h = refl
+into fin i (read reg len slot finds over after) rest c r rs h = refl
 into fin i (wait w) rest c r rs h = go (wait_limit c.code w - i) (omega (arith, h))
   where
     go : (n : ℕ) → 1 ≤ n
@@ -76,7 +76,7 @@ into fin i (wait w) rest c r rs h = go (wait_limit c.code w - i) (omega (arith, 
         heard x (r ∷ rs) ≡ taken (send_of (wait w) c) r (play (hears x (cut (send_of (wait w) c) r.failure (data_of r))) rs) (heard x rs))
     go zero k = absurd (omega arith)
     go (suc n) k = refl
-into fin i range rest c r rs h = refl
+into fin i (range reg len slot over) rest c r rs h = refl
 
 taking : (rs : List Raw) (s : Session) (t : Transfer) (r : Raw) (o : Outcome) (x y : Trace) → drive rs o ≡ x → follows rs s ≡ y
     → drive rs (cond (not (is_clean t r)) (refused Answer.StrayByte s) o) ≡ taken t r x y

@@ -2,7 +2,7 @@
 use mathlib.Core.Path.{◌≡◌, refl, sym, ap, ◌∙◌}
 use mathlib.Core.Bool.{Bool, true, false, not, ◌&&◌, cond}
 use mathlib.Core.List.{List, [], ◌∷◌}
-use Prim.Native.Nat.{ℕ, zero, suc}
+use Prim.Native.Nat.{ℕ, zero, suc, ◌+◌}
 use lib.Dec.{eqb, leb}
 use lib.ListN.{drop}
 use Rattle.session.specs.Bus.{Answer, Transfer, bad}
@@ -10,23 +10,24 @@ use Rattle.session.specs.Instructions.{Context, Final, success, failure, Op, wri
 use Rattle.session.specs.Steps.{op_of}
 use Rattle.session.specs.Calls.{tuning, programs, ops_of, program_of}
 use Rattle.session.specs.Machine.{Session, Outcome, sent, answered, refused, broken, resting, context_of, kept_of, sending, conclude, enter, arrive, react, stray}
-use Rattle.session.specs.Records.{reply, step_def}
+use Rattle.session.specs.Records.{reply}
+use Rattle.session.specs.History.{step_def}
 use Rattle.session.specs.Claim3.{reports_read, reported}
 use Rattle.session.specs.Parts.{reads_range_at}
 use Rattle.session.specs.AnySession.{failure_reported, fields_left, FailureEnds, GivenUp}
-use Rattle.session.proofs.Facts.{both, clash, untrue}
+use Rattle.ground.proofs.Facts.{both, clash, untrue}
 use Rattle.session.proofs.Table.{of_test}
 use Rattle.session.proofs.Refused.{sound_of}
-use Rattle.session.proofs.Shape.{is_range, same_bool, same_bool_lem}
+use Rattle.session.proofs.Shape.{is_range, over_of, same_bool, same_bool_lem}
 use Rattle.session.proofs.Cut.{stray_is}
 use Rattle.session.proofs.Pairs.{StepTest, walk, walk_at, instruction_there, met_at}
 use Rattle.session.proofs.React.{report_is}
 
 abbrev is_write : Op → Bool
 is_write (write reg bytes len over after) = true
-is_write (read reg len slot over after) = false
+is_write (read reg len slot finds over after) = false
 is_write (wait w) = false
-is_write range = false
+is_write (range reg len slot over) = false
 
 -- the range reads are where the claim says, and of call 6 all that is written comes after its own
 abbrev failed_ok : ℕ → StepTest
@@ -61,13 +62,13 @@ failure_ends s (suc e) bs u h z r =
         → react op (program_of s.code) s (bad e) ≡ ends (failure_reported s (suc e))
     go (write reg bytes len over after) q w =
         ap ends (written (eqb s.code 6) s.code s.failed e refl ∙ ap (λ b. cond b (reported s.code s.failed (suc e)) (suc e)) (sym w))
-    go (read reg len slot over after) q w = ap ends (unwritten (eqb s.code 6) (reported s.code s.failed (suc e)) (suc e) ∙ ap (λ b. cond b (reported s.code s.failed (suc e)) (suc e)) (sym w))
+    go (read reg len slot finds over after) q w = ap ends (unwritten (eqb s.code 6) (reported s.code s.failed (suc e)) (suc e) ∙ ap (λ b. cond b (reported s.code s.failed (suc e)) (suc e)) (sym w))
     go (wait x) q w = ap ends (unwritten (eqb s.code 6) (reported s.code s.failed (suc e)) (suc e) ∙ ap (λ b. cond b (reported s.code s.failed (suc e)) (suc e)) (sym w))
-    go range q w = untrue q
+    go (range reg len slot over) q w = untrue q
 
--- no range read comes after a range read
+-- no range read comes after a failed range read
 abbrev after_ok : ℕ → StepTest
-after_ok code k i is = not (reads_range_at code k && reads_range_at code (suc k))
+after_ok code k i is = not (reads_range_at code k && reads_range_at code (suc k + over_of (op_of i)))
 
 none_follows : (code : ℕ) → walk (after_ok code) 0 (program_of code).steps ≡ true
 unfolding programs tuning
@@ -109,17 +110,22 @@ given_up s (suc c) bs bs' t s' u h z z' e u' = go (reads_range_at s.code s.step)
     ends : Session → ℕ → Outcome
     ends s x = answered (Answer.BusError x) s.transfers (resting (fields_left s))
 
-    reached : (op : Op) → true ≡ is_range op → react op (program_of s.code) s (bad c) ≡ sent t s' → s' ≡ sending (suc s.step) 0 (kept_of s range (bad c))
+    reached : (op : Op) → true ≡ is_range op → react op (program_of s.code) s (bad c) ≡ sent t s'
+        → (s'.code ≡ s.code) × (s'.step ≡ suc s.step + over_of op) × (s'.failed ≡ suc c)
     reached (write reg bytes len over after) q e = untrue (sym q)
-    reached (read reg len slot over after) q e = untrue (sym q)
+    reached (read reg len slot finds over after) q e = untrue (sym q)
     reached (wait w) q e = untrue (sym q)
-    reached range q e = next_out (program_of s.code).final (drop (suc s.step) (ops_of (program_of s.code))) (suc s.step) (kept_of s range (bad c)) s' t e
+    reached (range reg len slot over) q e =
+        let k : ℕ = suc s.step + over in
+        let u : Session = kept_of s (range reg len slot over) (bad c) in
+        let at : s' ≡ sending k 0 u = next_out (program_of s.code).final (drop k (ops_of (program_of s.code))) k u s' t e in
+        (ap (λ (x : Session). x.code) at, ap (λ (x : Session). x.step) at, ap (λ (x : Session). x.failed) at)
 
-    ended : s' ≡ sending (suc s.step) 0 (kept_of s range (bad c)) → reads_range_at s.code (suc s.step) ≡ false → step_def s' (reply (suc c) bs') ≡ ends s' (suc c)
-    ended e r =
-        let e' : reads_range_at s'.code s'.step ≡ false = ap (λ (x : Session). reads_range_at x.code x.step) e ∙ r in
+    ended : (k : ℕ) → (s'.code ≡ s.code) × (s'.step ≡ k) × (s'.failed ≡ suc c) → reads_range_at s.code k ≡ false → step_def s' (reply (suc c) bs') ≡ ends s' (suc c)
+    ended k e r =
+        let e' : reads_range_at s'.code s'.step ≡ false = rw (e.0, e.1) r in
         failure_ends s' (suc c) bs' u' h z' e'
-        ∙ ap (ends s') (ap (λ (n : ℕ). cond (eqb s'.code 6 && leb 2 s'.step) (reported s'.code n (suc c)) (suc c)) (ap (λ (x : Session). x.failed) e) ∙ one_code (eqb s'.code 6 && leb 2 s'.step) s'.code (suc c))
+        ∙ ap (ends s') (ap (λ (n : ℕ). cond (eqb s'.code 6 && leb 2 s'.step) (reported s'.code n (suc c)) (suc c)) e.2 ∙ one_code (eqb s'.code 6 && leb 2 s'.step) s'.code (suc c))
 
     go : (b : Bool) → reads_range_at s.code s.step ≡ b → step_def s' (reply (suc c) bs') ≡ ends s' (suc c)
     go false r = clash (cc (failure_ends s (suc c) bs u h z r, e))
@@ -127,5 +133,5 @@ given_up s (suc c) bs bs' t s' u h z z' e u' = go (reads_range_at s.code s.step)
         instruction_there s (sound_of s u).1 (λ i is at.
         let q = both (same_bool (reads_range_at s.code s.step) (is_range (op_of i))) _ (walk_at (failed_ok s.code) (program_of s.code).steps s.step i is (all_ok s.code) at) in
         let n : stray (send_of (op_of i) (context_of s)) (suc c) bs ≡ false = stray_is (send_of (op_of i) (context_of s)) (suc c) bs ∙ ap not z in
-        let l : not (reads_range_at s.code s.step && reads_range_at s.code (suc s.step)) ≡ true = walk_at (after_ok s.code) (program_of s.code).steps s.step i is (none_follows s.code) at in
-        ended (reached (op_of i) (sym r ∙ same_bool_lem _ _ q.0) (rw n at (sym (met_at s s.code s.step i is (suc c) bs refl refl u at) ∙ e))) (not_both _ (rw r at l)))
+        let l : not (reads_range_at s.code s.step && reads_range_at s.code (suc s.step + over_of (op_of i))) ≡ true = walk_at (after_ok s.code) (program_of s.code).steps s.step i is (none_follows s.code) at in
+        ended (suc s.step + over_of (op_of i)) (reached (op_of i) (sym r ∙ same_bool_lem _ _ q.0) (rw n at (sym (met_at s s.code s.step i is (suc c) bs refl refl u at) ∙ e))) (not_both _ (rw r at l)))

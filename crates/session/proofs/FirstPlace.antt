@@ -15,17 +15,19 @@ use Rattle.timing.proofs.Stays.{first_place_stays}
 use Rattle.budget.specs.declared.NoWord.{NoWord}
 use Rattle.budget.specs.Budget.{final_range_word}
 use Rattle.session.specs.Bus.{byte, Transfer, Answer, Driver, Reply, good, data_in}
-use Rattle.session.specs.Instructions.{Instruction, Context, Op, Final, bytes_from, put, timing_in, send_of}
+use Rattle.session.specs.Instructions.{Instruction, Context, Op, Final, bytes_from, put, timing_in, send_of, timing_slot}
+use Rattle.session.specs.declared.Setting.{Setting}
 use Rattle.session.specs.Steps.{by_place, by_word, no_time, over_last, word_to_set, timing_length, timing_place, op_of}
 use Rattle.session.specs.Calls.{ops_of, timing_reads, tuning, bring_up_steps, programs, program_of}
 use Rattle.session.specs.Machine.{Session, context_of, first_transfer_out, outstanding}
-use Rattle.session.specs.Records.{reply, step_def}
+use Rattle.session.specs.Records.{reply}
+use Rattle.session.specs.History.{step_def}
 use Rattle.session.specs.Script.{Script, done, send, cut}
 use Rattle.session.specs.RustFn.{◌>>◌, Ok as Fine, write_byte}
 use Rattle.session.specs.RustCalls.{start_timed, set_measurement_timing_budget}
 use Rattle.session.specs.RustBringUp.{method, unit, constructed, calibration}
 use Rattle.session.specs.AnySession.{keeping, decided, resume, left_of, left, hears, StandsAt, budget_replies, after_replies, BudgetReply, in_call_15, in_call_9, in_bring_up, again_in_bring_up, FirstPlace, of_call_9, of_bring_up, WordOut, StepsWritten, chip_in, FirstPlaceOfPeriod}
-use Rattle.session.proofs.Facts.{clash, drop_next}
+use Rattle.ground.proofs.Facts.{clash, drop_next}
 use Rattle.session.proofs.Tests.{none_known}
 use Rattle.session.proofs.Later.{earlier_same}
 use Rattle.session.proofs.OneStep.{step_by_step}
@@ -81,7 +83,8 @@ kept_again second (suc (suc (suc (suc (suc n))))) h c = absurd (omega arith)
 -- ---- the read of the reply n + 1, and what a place of the first n makes of it
 pub data Nth (k : ℕ) : ℕ → Instruction → Type 0 where
   timing : (n : ℕ) → Nth k n (Instruction.ReadTiming (suc n) k)
-  word : Nth k 5 (Instruction.ReadLast k)
+  found : k ≡ timing_slot → Nth k 5 Instruction.FindBudget
+  word : (x : Setting) → Nth k 5 (Instruction.ReadLast k x)
 
 known_place : (fin : Context → Final) {n k : ℕ} {i : Instruction} → Nth k n i → n ≤ 5
     → (ops : List Op) (c : Context) (bs : List ℕ) (p : Place) → first_place (timing_in k c.carried) n ≡ Some p
@@ -91,7 +94,12 @@ known_place fin {n} {k} (timing _) h ops c bs p e =
     let r = timing_in k (put c.carried (k + timing_place (suc n)) (bytes_from 0 (timing_length (suc n)) bs)) in
     let q : first_place r (suc n) ≡ Some p = first_place_stays r n (suc n) p (omega arith) (earlier_same n h k c.carried (bytes_from 0 (timing_length (suc n)) bs) ∙ e) in
     rw q
-known_place fin {n} {k} word h ops c bs p e =
+known_place fin {n} {k} (found at) h ops c bs p e =
+    let r = timing_in timing_slot (put c.carried (timing_slot + 7) (bytes_from 0 1 bs)) in
+    let e' : first_place (timing_in timing_slot c.carried) 5 ≡ Some p = rw at at e in
+    let q : first_place r 6 ≡ Some p = first_place_stays r 5 6 p (omega arith) (earlier_same 5 h timing_slot c.carried (bytes_from 0 1 bs) ∙ e') in
+    rw q
+known_place fin {n} {k} (word x) h ops c bs p e =
     let r = timing_in k (put c.carried (k + 7) (bytes_from 0 1 bs)) in
     let q : first_place r 6 ≡ Some p = first_place_stays r 5 6 p (omega arith) (earlier_same 5 h k c.carried (bytes_from 0 1 bs) ∙ e) in
     rw q
@@ -124,7 +132,8 @@ module _ (fin : Context → Final) {k : ℕ} (slot : Slot k) {i : Instruction} (
       → drop n ops ≡ op_of i' ∷ others → Nth k n i'
       → hears (ended x c.driver (from n c)) (good (data_at n k c.carried)) ≡ ended (first_place (timing_in k c.carried) (suc n)) c.driver (from (suc n) c)
   on_reads n h c (Some p) e at x = rw (first_place_stays (timing_in k c.carried) n (suc n) p (omega arith) e) refl
-  on_reads n h c None e at word = absurd (omega arith)
+  on_reads n h c None e at (found q) = absurd (omega arith)
+  on_reads n h c None e at (word x) = absurd (omega arith)
   on_reads n h c None e {others = others} at (timing _) =
       let there : drop (suc n) ops ≡ others = drop_next n ops at in
       let after : Context → Script = λ c'. decided (by_place (first_place (timing_in k c'.carried) (suc n))) 0 c' (λ m. resume fin m others c') in
@@ -164,7 +173,8 @@ module _ (fin : Context → Final) {k : ℕ} (slot : Slot k) {i : Instruction} (
 first_read : (fin : Context → Final) {k n : ℕ} {i : Instruction} → Nth k n i → (idle : ℕ) (l : List Op) (c : Context)
     → left_of fin idle (op_of i ∷ l) c ≡ resume fin zero (op_of i ∷ l) c
 first_read fin (timing n) idle l c = refl
-first_read fin word idle l c = refl
+first_read fin (found q) idle l c = refl
+first_read fin (word x) idle l c = refl
 
 -- j instructions come before the six reads, and `x` is what the call is from there on
 module _ (s : Session) (code j n : ℕ) {k : ℕ} (slot : Slot k) {i : Instruction} (sixth : Nth k 5 i) (rest : List Instruction)
@@ -198,10 +208,10 @@ module _ (s : Session) (code j n : ℕ) {k : ℕ} (slot : Slot k) {i : Instructi
 reads_in : (s : Session) (n k : ℕ) (x : Script) → n ≤ 5 → BudgetReply s n k x → length s.carried ≡ 24 → (bs : List ℕ)
     → hears (left s) (good bs) ≡ after_replies x (take n (budget_replies k s.carried) ++ good bs ∷ [])
 unfolding program_of programs tuning
-reads_in s n k x h (in_call_15 e t) len = reply_leads s 15 0 n first (timing 5) [] refl e (omega (arith, t)) h x len (from_15 s)
-reads_in s n k x h (in_call_9 e t) len = reply_leads s 9 0 n first word (Instruction.WriteWord 8 ∷ []) refl e (omega (arith, t)) h x len (from_9 s)
-reads_in s n k x h (in_bring_up e t) len = reply_leads s 1 129 n first (timing 5) (drop 135 bring_up_steps) refl e t h x len (from_1 s)
-reads_in s n k x h (again_in_bring_up e t) len = reply_leads s 1 136 n second word (drop 142 bring_up_steps) refl e t h x len (again_from_1 s)
+reads_in s n k x h (in_call_15 e t) len = reply_leads s 15 0 n first (found refl) [] refl e (omega (arith, t)) h x len (from_15 s)
+reads_in s n k x h (in_call_9 e t) len = reply_leads s 9 0 n first (word Setting.Asked) (Instruction.WriteWord 8 Setting.Asked ∷ []) refl e (omega (arith, t)) h x len (from_9 s)
+reads_in s n k x h (in_bring_up e t) len = reply_leads s 1 129 n first (found refl) (drop 135 bring_up_steps) refl e t h x len (from_1 s)
+reads_in s n k x h (again_in_bring_up e t) len = reply_leads s 1 136 n second (word Setting.Found) (drop 142 bring_up_steps) refl e t h x len (again_from_1 s)
 
 pub first_place_law : (s : Session) (bs : List ℕ) → FirstPlace s bs
 first_place_law s bs n k x h q u len z =
@@ -209,34 +219,28 @@ first_place_law s bs n k x h q u len z =
 
 -- ---- the word that is out
 -- what follows the last read, where it sends a word: `lead` is what follows where no time is left
-module _ (k : ℕ) (c : Context) (κ : ℕ → Script) (g : Reply → Script) (t : Transfer) (f : Reply → Script)
-    (word : κ zero ≡ send (send_of (op_of (Instruction.WriteWord k)) c) g)
-    (short : decided (no_time k) (over_last k) c κ ≡ send t f → byte 0 t.written ≡ 0x71 → ⊥) where
-  word_sent_is : (w : Result ℕ NoWord) → decided (by_word (no_time k) w) (over_last k) c κ ≡ send t f → byte 0 t.written ≡ 0x71
-      → send_of (op_of (Instruction.WriteWord k)) c ≡ t
-  word_sent_is (Ok n) e z = let q : send (send_of (op_of (Instruction.WriteWord k)) c) g ≡ send t f = sym word ∙ e in cc
+module _ (k : ℕ) (x : Setting) (c : Context) (κ : ℕ → Script) (g : Reply → Script) (t : Transfer) (f : Reply → Script)
+    (word : κ zero ≡ send (send_of (op_of (Instruction.WriteWord k x)) c) g)
+    (short : decided (no_time x) (over_last x) c κ ≡ send t f → byte 0 t.written ≡ 0x71 → ⊥) where
+  word_sent_is : (w : Result ℕ NoWord) → decided (by_word (no_time x) w) (over_last x) c κ ≡ send t f → byte 0 t.written ≡ 0x71
+      → send_of (op_of (Instruction.WriteWord k x)) c ≡ t
+  word_sent_is (Ok n) e z = let q : send (send_of (op_of (Instruction.WriteWord k x)) c) g ≡ send t f = sym word ∙ e in cc
   word_sent_is (Err NoWord.NoTime) e z = absurd (short e z)
   word_sent_is (Err (NoWord.Panic p)) e z = clash cc
 
 -- the sixth reply, read again
-again_8 : (fin : Context → Final) (ops : List Op) (c : Context) (t : Transfer) (f : Reply → Script)
-    → hears (resume fin zero (op_of (Instruction.ReadLast 8) ∷ op_of (Instruction.WriteWord 8) ∷ ops) c) (good (data_at 5 8 c.carried)) ≡ send t f
-    → byte 0 t.written ≡ 0x71 → send_of (op_of (Instruction.WriteWord 8)) c ≡ t
-again_8 fin ops c t f e z =
-    let c' : Context = keeping c (op_of (Instruction.ReadLast 8)) (good (data_at 5 8 c.carried)) in
-    let q : send_of (op_of (Instruction.WriteWord 8)) c' ≡ t = word_sent_is 8 c' (λ m. resume fin m (op_of (Instruction.WriteWord 8) ∷ ops) c') _ t f refl (λ h y. clash cc) (word_to_set 8 c') e z in
-    rw (set-get_or c.carried 15 0) at q
+kept_last : {k : ℕ} → Slot k → (x : Setting) (c : Context) → keeping c (op_of (Instruction.ReadLast k x)) (good (data_at 5 k c.carried)) ≡ c
+kept_last first x c = rw (set-get_or c.carried 15 0) refl
+kept_last second x c = rw (set-get_or c.carried 23 0) refl
 
-again_16 : (fin : Context → Final) (ops : List Op) (c : Context) (t : Transfer) (f : Reply → Script)
-    → hears (resume fin zero (op_of (Instruction.ReadLast 16) ∷ op_of (Instruction.WriteWord 16) ∷ op_of (Instruction.Write 0x01 0x01) ∷ ops) c) (good (data_at 5 16 c.carried)) ≡ send t f
-    → byte 0 t.written ≡ 0x71 → send_of (op_of (Instruction.WriteWord 16)) c ≡ t
-again_16 fin ops c t f e z =
-    let c' : Context = keeping c (op_of (Instruction.ReadLast 16)) (good (data_at 5 16 c.carried)) in
-    let q : send_of (op_of (Instruction.WriteWord 16)) c' ≡ t =
-    word_sent_is 16 c' (λ m. resume fin m (op_of (Instruction.WriteWord 16) ∷ op_of (Instruction.Write 0x01 0x01) ∷ ops) c') _ t f refl
-    (λ h y. let same : send_of (op_of (Instruction.Write 0x01 0x01)) c' ≡ t = cc in let n : ◌≡◌ {A = ℕ} 0x01 0x71 = ap (λ x. byte 0 x.written) same ∙ y in absurd (omega (arith, n)))
-    (word_to_set 16 c') e z in
-    rw (set-get_or c.carried 23 0) at q
+again : {k : ℕ} → Slot k → (x : Setting) (fin : Context → Final) (ops : List Op) (c : Context) (t : Transfer) (f : Reply → Script)
+    → ((c' : Context) → decided (no_time x) (over_last x) c' (λ m. resume fin m (op_of (Instruction.WriteWord k x) ∷ ops) c') ≡ send t f → byte 0 t.written ≡ 0x71 → ⊥)
+    → hears (resume fin zero (op_of (Instruction.ReadLast k x) ∷ op_of (Instruction.WriteWord k x) ∷ ops) c) (good (data_at 5 k c.carried)) ≡ send t f
+    → byte 0 t.written ≡ 0x71 → send_of (op_of (Instruction.WriteWord k x)) c ≡ t
+again {k} slot x fin ops c t f short e z =
+    let c' : Context = keeping c (op_of (Instruction.ReadLast k x)) (good (data_at 5 k c.carried)) in
+    ap (send_of (op_of (Instruction.WriteWord k x))) (sym (kept_last slot x c))
+    ∙ word_sent_is k x c' (λ m. resume fin m (op_of (Instruction.WriteWord k x) ∷ ops) c') _ t f refl (short c') (word_to_set k x c') e z
 
 -- the six replies as carried, and the script from the first read on
 six_replies : (code j : ℕ) (s : Session) {k : ℕ} (slot : Slot k) {i : Instruction} (sixth : Nth k 5 i) (rest : List Instruction)
@@ -254,14 +258,16 @@ unfolding program_of programs tuning
 word_out s k x t f (of_call_9 e p) len h z =
     ap (λ m. first_transfer_out (drop s.step (ops_of (program_of m))) (context_of s)) e
     ∙ ap (λ m. first_transfer_out (drop m (ops_of (program_of 9))) (context_of s)) p
-    ∙ again_8 (program_of 9).final [] (context_of s) t f (six_replies 9 0 s first word (Instruction.WriteWord 8 ∷ []) refl e len x (from_9 s) ∙ h) z
+    ∙ again first Setting.Asked (program_of 9).final [] (context_of s) t f (λ c' h' y. clash cc) (six_replies 9 0 s first (word Setting.Asked) (Instruction.WriteWord 8 Setting.Asked ∷ []) refl e len x (from_9 s) ∙ h) z
 word_out s k x t f (of_bring_up e p) len h z =
     ap (λ m. first_transfer_out (drop s.step (ops_of (program_of m))) (context_of s)) e
     ∙ ap (λ m. first_transfer_out (drop m (ops_of (program_of 1))) (context_of s)) p
-    ∙ again_16 (program_of 1).final (map op_of (drop 144 bring_up_steps)) (context_of s) t f (six_replies 1 136 s second word (drop 142 bring_up_steps) refl e len x (again_from_1 s) ∙ h) z
+    ∙ again second Setting.Found (program_of 1).final (map op_of (drop 143 bring_up_steps)) (context_of s) t f
+    (λ c' h' y. let same : send_of (op_of (Instruction.Write 0x01 0x01)) c' ≡ t = cc in let n : ◌≡◌ {A = ℕ} 0x01 0x71 = ap (λ x. byte 0 x.written) same ∙ y in absurd (omega (arith, n)))
+    (six_replies 1 136 s second (word Setting.Found) (drop 142 bring_up_steps) refl e len x (again_from_1 s) ∙ h) z
 
 -- ---- the sequence steps of a bring-up
-steps_lead : (s : Session) → s.code ≡ 1 → s.step ≡ 135 → length s.carried ≡ 24 → left s ≡ constructed (chip_in s s.own) (write_byte 0x01 0xE8 >> (set_measurement_timing_budget s.own >> calibration))
+steps_lead : (s : Session) → s.code ≡ 1 → s.step ≡ 135 → length s.carried ≡ 24 → left s ≡ constructed (chip_in s s.found_budget) (write_byte 0x01 0xE8 >> (set_measurement_timing_budget s.found_budget >> calibration))
 unfolding program_of programs tuning
 steps_lead s e t len =
     ap (λ m. left_of (program_of m).final s.idle (drop s.step (ops_of (program_of m))) (context_of s)) e

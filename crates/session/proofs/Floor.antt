@@ -9,7 +9,7 @@ use lib.Dec.{leb}
 use borrow.Author.Tests.{leb-true}
 use lib.ListN.{get_or, drop}
 use Rattle.session.specs.Instructions.{Op}
-use Rattle.session.specs.Calls.{ops_of, tuning, programs, program_of, arguments_ok}
+use Rattle.session.specs.Calls.{ops_of, tuning, programs, program_of, top_code, arguments_ok}
 use Rattle.session.specs.Claim3.{floor_in}
 use Rattle.session.proofs.Table.{below_pass, by_code_lem}
 use Rattle.session.proofs.Shape.{over_of}
@@ -33,7 +33,7 @@ pub floor_law : (code a b : ℕ) → arguments_ok code a b ≡ true → floor_in
 unfolding program_of programs floor_in tuning
 floor_law code a b e =
     let test : ℕ → Bool = λ n. leb (floor_in n) (least (ops_of (program_of n))) in
-    leb-true _ _ (by_code_lem (λ n. test n ≡ true) (below_pass test 1 15 refl) code a b e)
+    leb-true _ _ (by_code_lem (λ n. test n ≡ true) (below_pass test 1 top_code refl) code a b e)
 
 leasts_drop : (n : ℕ) (ops : List Op) → get_or (leasts ops) n 0 ≡ least (drop n ops)
 leasts_drop zero ops = refl

@@ -56,7 +56,7 @@ module _ (s : Session) where
         a = s.a;
         b = s.b;
         failed = s.failed;
-        own = s.own;
+        found_budget = s.found_budget;
         carried = bytes_from 0 24 s.carried;
       }
 
@@ -83,18 +83,18 @@ module _ (s : Session) where
       go : once_from 1 129 (view 1) ≡ constructed (chip_in s 0) budget_and_calibration
       go = rw (or_is, no_interrupt_is, get_is, set_is)
 
-  pub again_from_1 : from_step 1 136 (view 1) ≡ constructed (chip_in s s.own) (set_budget_from_reads s.own >> calibration)
+  pub again_from_1 : from_step 1 136 (view 1) ≡ constructed (chip_in s s.found_budget) (set_budget_from_reads s.found_budget >> calibration)
   unfolding program_of programs tuning idle_on entries_of less_place or_byte each_bit bits_of byte_of
-  again_from_1 = made_once 1 136 (view 1) refl ∙ go ∙ ap (λ f. constructed (chip_in s s.own) (f s.own >> calibration)) (sym rest_is)
+  again_from_1 = made_once 1 136 (view 1) refl ∙ go ∙ ap (λ f. constructed (chip_in s s.found_budget) (f s.found_budget >> calibration)) (sym rest_is)
     where
-      go : once_from 1 136 (view 1) ≡ constructed (chip_in s s.own) (six (λ r. tested r s.own) >> calibration)
+      go : once_from 1 136 (view 1) ≡ constructed (chip_in s s.found_budget) (six (λ r. tested r s.found_budget) >> calibration)
       go = rw (or_is, no_interrupt_is)
 
-  pub steps_from_1 : from_step 1 135 (view 1) ≡ constructed (chip_in s s.own) (write_byte 0x01 0xE8 >> (set_measurement_timing_budget s.own >> calibration))
+  pub steps_from_1 : from_step 1 135 (view 1) ≡ constructed (chip_in s s.found_budget) (write_byte 0x01 0xE8 >> (set_measurement_timing_budget s.found_budget >> calibration))
   unfolding program_of programs tuning idle_on entries_of less_place or_byte each_bit bits_of byte_of
   steps_from_1 = made_once 1 135 (view 1) refl ∙ go
     where
-      go : once_from 1 135 (view 1) ≡ constructed (chip_in s s.own) (write_byte 0x01 0xE8 >> (set_measurement_timing_budget s.own >> calibration))
+      go : once_from 1 135 (view 1) ≡ constructed (chip_in s s.found_budget) (write_byte 0x01 0xE8 >> (set_measurement_timing_budget s.found_budget >> calibration))
       go = rw (or_is, no_interrupt_is, set_is)
 
   pub from_4 : eqb s.a 0 ≡ false → from_step 4 7 (view 4) ≡ method unit s.driver (start_timed s.a >> Ok tt)

@@ -2,31 +2,31 @@
 use mathlib.Core.Path.{◌≡◌, refl}
 use mathlib.Core.Bool.{true, false, Bool}
 use mathlib.Core.List.{List, [], ◌∷◌}
-use Prim.Native.Nat.{ℕ, zero, suc, ◌+◌, ◌-◌, ◌≤◌, ◌<◌, zero-le}
+use Prim.Native.Nat.{ℕ, zero, suc, ◌+◌, ◌-◌, ◌≤◌, ◌<◌}
 use native.Mathlib.Nat.{le_refl}
 use native.Mathlib.Omega.{arith}
 use native.Mathlib.Bridge.{le_by_compare, IsLe}
 use lib.Dec.{eqb, ltb, leb}
 use lib.ListN.{drop}
-use borrow.Author.Tests.{le-leb, lt-leb, le-ltb, ne_eqb, leb-true, leb-false, ltb-true}
+use borrow.Author.Tests.{lt-leb, le-ltb, ne_eqb, leb-true, leb-false, ltb-true}
 use lib.Seq.{drop-drop}
-use Rattle.session.specs.Bus.{Transfer, Reply, bad, good, Condition, detector_ready, status_ready, started, wait_limit, idle_on}
+use Rattle.session.specs.Bus.{Transfer, Reply, bad, good, Condition, wait_limit, idle_on}
 use Rattle.session.specs.Instructions.{Verdict, onward, leap, stop, test, Op, write, read, wait, range, Final, success, failure, send_of, cost_of, worst}
-use Rattle.session.specs.Calls.{ops_of, tuning, programs, program_of, ceilings, ceiling_of, arguments_ok}
+use Rattle.session.specs.Calls.{ops_of, tuning, programs, program_of, ceiling_of, arguments_ok}
 use Rattle.session.specs.Machine.{Session, Outcome, sent, answered, refused, broken, context_of, kept_of, sending, conclude, enter, arrive, decide, react, idle_wrong, up_wrong, malformed, begun, not_up}
-use Rattle.session.proofs.Facts.{cond_case, or_false, not_of_true, drop_next}
+use Rattle.ground.proofs.Facts.{cond_case, or_false, not_of_true, drop_next}
 use Rattle.session.proofs.Table.{of_test, code_nonzero}
 
 -- a wait reads at least once
 pub limit_positive : (code : ℕ) (x : Condition) → 1 ≤ wait_limit code x
 unfolding IsLe
-limit_positive code detector_ready = le_by_compare _ _ tt
-limit_positive code status_ready = le_by_compare _ _ tt
-limit_positive code started = le_by_compare _ _ tt
+limit_positive code Condition.DetectorReady = le_by_compare _ _ tt
+limit_positive code Condition.StatusReady = le_by_compare _ _ tt
+limit_positive code Condition.Started = le_by_compare _ _ tt
 
 pub ceiling_law : (code : ℕ) → worst code (ops_of (program_of code)) ≤ ceiling_of code
-unfolding programs ceiling_of ceilings tuning
-ceiling_law code = leb-true _ _ (of_test (λ k p. leb (worst k (ops_of p)) (ceiling_of k)) (λ k. le-leb 0 (ceiling_of k) zero-le) refl code)
+unfolding programs ceiling_of tuning
+ceiling_law code = leb-true _ _ (of_test (λ k p. leb (worst k (ops_of p)) p.ceiling) (λ k. refl) refl code)
 
 pub code_test : (code a b : ℕ) → arguments_ok code a b ≡ true → eqb code 0 ≡ false
 code_test code a b e = ne_eqb code 0 (code_nonzero code a b e)
@@ -34,9 +34,9 @@ code_test code a b e = ne_eqb code 0 (code_nonzero code a b e)
 -- the reads that a wait still has after this one
 abbrev pub after_cost : ℕ → Op → ℕ → ℕ
 after_cost code (write reg bytes len over after) i = 0
-after_cost code (read reg len slot over after) i = 0
+after_cost code (read reg len slot finds over after) i = 0
 after_cost code (wait w) i = wait_limit code w - suc i
-after_cost code range i = 0
+after_cost code (range reg len slot over) i = 0
 
 pub record Good (s : Session) (op : Op) (rest : List Op) : Type 0 where
   pub args : arguments_ok s.code s.a s.b ≡ true
@@ -65,15 +65,15 @@ good_sound s op rest g =
 
 first_quiet : (code : ℕ) (op : Op) (rest : List Op) → idle_wrong code (op ∷ rest) 0 ≡ false
 first_quiet code (write reg bytes len over after) rest = refl
-first_quiet code (read reg len slot over after) rest = refl
+first_quiet code (read reg len slot finds over after) rest = refl
 first_quiet code (wait w) rest = lt-leb (wait_limit code w) 0 (limit_positive code w)
-first_quiet code range rest = refl
+first_quiet code (range reg len slot over) rest = refl
 
 first_cost : (code : ℕ) (op : Op) → suc (after_cost code op 0) ≤ cost_of code op
 first_cost code (write reg bytes len over after) = omega arith
-first_cost code (read reg len slot over after) = omega arith
+first_cost code (read reg len slot finds over after) = omega arith
 first_cost code (wait w) = omega (arith, limit_positive code w)
-first_cost code range = omega arith
+first_cost code (range reg len slot over) = omega arith
 
 pub arrive_good : (s : Session) (k : ℕ) (op : Op) (rest : List Op) → Between s k → drop k (ops_of (program_of s.code)) ≡ op ∷ rest → Good (sending k 0 s) op rest
 arrive_good s k op rest n e =
@@ -169,9 +169,9 @@ decide_goes (test t v w) s over k b = cond_case GoodOut t (λ e. decide_goes v s
 pub react_goes : (s : Session) (op : Op) (rest : List Op) (r : Reply) → Good s op rest → GoodOut (react op (program_of s.code) s r)
 react_goes s (write reg bytes len over after) rest (bad e) g = tt
 react_goes s (write reg bytes len over after) rest (good bs) g = decide_goes (after (context_of s)) s over (suc s.step) (between_next s (write reg bytes len over after) rest g)
-react_goes s (read reg len slot over after) rest (bad e) g = tt
-react_goes s (read reg len slot over after) rest (good bs) g =
-    let op : Op = read reg len slot over after in
+react_goes s (read reg len slot finds over after) rest (bad e) g = tt
+react_goes s (read reg len slot finds over after) rest (good bs) g =
+    let op : Op = read reg len slot finds over after in
     decide_goes (after (context_of (kept_of s op (good bs)))) (kept_of s op (good bs)) over (suc s.step) (between_kept s op rest op (good bs) g)
 react_goes s (wait w) rest (bad e) g = tt
 react_goes s (wait w) rest (good bs) g =
@@ -180,5 +180,9 @@ react_goes s (wait w) rest (good bs) g =
     (λ lt. record { op = wait w; rest = rest; good = idle_more s w rest g (ltb-true (suc s.idle) (wait_limit s.code w) lt); is = refl })
     (λ ge. tt))
     (λ h. arrive_goes s (suc s.step) (between_next s (wait w) rest g))
-react_goes s range rest (bad e) g = arrive_goes (kept_of s range (bad e)) (suc s.step) (between_kept s range rest range (bad e) g)
-react_goes s range rest (good bs) g = arrive_goes (kept_of s range (good bs)) (suc s.step) (between_kept s range rest range (good bs) g)
+react_goes s (range reg len slot over) rest (bad e) g =
+    let op : Op = range reg len slot over in
+    arrive_goes (kept_of s op (bad e)) (suc s.step + over) (between_skip (kept_of s op (bad e)) (suc s.step) over (between_kept s op rest op (bad e) g))
+react_goes s (range reg len slot over) rest (good bs) g =
+    let op : Op = range reg len slot over in
+    arrive_goes (kept_of s op (good bs)) (suc s.step) (between_kept s op rest op (good bs) g)

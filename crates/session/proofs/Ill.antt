@@ -3,12 +3,13 @@ use mathlib.Core.Path.{◌≡◌, refl, sym}
 use mathlib.Core.Bool.{true, false, not}
 use mathlib.Core.List.{List, [], ◌∷◌}
 use borrow.Author.Tests.{not-false}
-use lib.ListN.{drop}
+use lib.ListN.{drop, length}
 use Rattle.session.specs.Instructions.{Op, send_of}
 use Rattle.session.specs.Calls.{ops_of, program_of, arguments_ok}
 use Rattle.session.specs.Machine.{Session, Outcome, sent, answered, refused, broken, context_of, to_reply, stray, on_ops, idle_wrong, malformed, waits_now, ill_formed, reply_def, begun, not_up, begin_def, other_def}
-use Rattle.session.specs.Records.{Record, call, reply, other, step_def}
-use Rattle.session.proofs.Facts.{cond_case, untrue}
+use Rattle.session.specs.Records.{Record, call, reply, other}
+use Rattle.session.specs.History.{step_def}
+use Rattle.ground.proofs.Facts.{cond_case, untrue}
 use Rattle.session.proofs.Accepts.{decide_all, react_all}
 use Rattle.session.proofs.Strays.{sound_step}
 
@@ -25,7 +26,7 @@ ill_is s (call code a b) =
     (λ e. cond_case (IllOf s) (not (arguments_ok code a b)) (λ e₁. e)
     (λ e₁. cond_case (IllOf s) (waits_now s) (λ e₂. e)
     (λ e₂. cond_case (IllOf s) (not_up code s.driver.up) (λ e₃. e)
-    (λ e₃. decide_all (IllOf s) code (λ t x. e) (λ v n d. e) (λ y x q. e) ((program_of code).entry (context_of (begun s code a b))) (program_of code) 0 0 (begun s code a b) refl))))
+    (λ e₃. decide_all (IllOf s) code (λ t x. e) (λ v n d. e) (λ y x q. e) ((program_of code).entry (context_of (begun s code a b))) (program_of code) (length (program_of code).steps) 0 (begun s code a b) refl))))
 ill_is s (reply f bs) =
     cond_case (IllOf s) (ill_formed s) (λ e. e)
     (λ e. cond_case (IllOf s) (not (waits_now s)) (λ e₁. e)

@@ -1,4 +1,5 @@
 -- One record keeps the laws of the history: the session, the calls so far and the counts go together.
+use Rattle.session.proofs.Laws.{over_free, entry_law}
 use mathlib.Core.Path.{◌≡◌, refl, ap, subst, ◌∙◌}
 use mathlib.Core.Bool.{true, false, not, cond}
 use mathlib.Core.List.{List, [], ◌∷◌}
@@ -11,10 +12,11 @@ use Rattle.session.specs.Bus.{Driver, Transfer, Answer, byte, absent}
 use Rattle.session.specs.Instructions.{Op, send_of}
 use Rattle.session.specs.Calls.{ops_of, program_of, arguments_ok}
 use Rattle.session.specs.Machine.{Session, Outcome, sent, answered, refused, broken, resting, context_of, decide, react, to_reply, stray, reply_def, begun, not_up, begin_def, other_def}
-use Rattle.session.specs.Records.{Record, call, reply, other, step_def}
-use Rattle.session.specs.History.{Got, transfer, answer, refusal, is_transfer, is_refused, is_accepted_call, is_accepted_reply, Exchange, by, waiting, ended, CallRun, joined, waiting_in, transfers_of}
-use Rattle.session.specs.Claim3.{is_up, BegunUp, All, Lawful, sum_of, replies_of}
-use Rattle.session.proofs.Facts.{cond_case, untrue}
+use Rattle.session.specs.Records.{Record, call, reply, other}
+use Rattle.session.specs.History.{step_def, Got, transfer, answer, refusal, is_transfer, is_refused, is_accepted_call, is_accepted_reply, Exchange, by, waiting, ended, CallRun, joined, waiting_in, transfers_of}
+use Rattle.session.specs.Claim3.{is_up, BegunUp, All, sum_of, replies_of}
+use Rattle.session.proofs.Lawful.{BothLaws}
+use Rattle.ground.proofs.Facts.{cond_case, untrue}
 use Rattle.session.proofs.Good.{code_test, good_sound, begun_marked}
 use Rattle.session.proofs.Phase.{clean}
 use Rattle.session.proofs.Up.{fields_of, up_is, begun_while_up, after_begun}
@@ -34,7 +36,7 @@ pub record Inv (s : Session) (cs : List CallRun) (t r : ℕ) : Type 0 where
   pub sum : t ≡ r + waiting_in cs
   pub made : t ≡ sum_of transfers_of cs
   pub heard : r ≡ sum_of replies_of cs
-  pub lawful : All Lawful cs
+  pub lawful : All BothLaws cs
   pub driver : s.driver ≡ fields_of cs
   pub begun_up : BegunUp cs
   pub now : Now s cs
@@ -69,7 +71,7 @@ now_sent code a b ex cs x s w f =
     (cc (f.same_code, f.same_a, f.same_b, f.is))
     (waits f.op f.rest f.match w)
 
-call_ok : (s : Session) (code a b : ℕ) (cs : List CallRun) (t r : ℕ) → waiting_in cs ≡ 0 → t ≡ r + waiting_in cs → t ≡ sum_of transfers_of cs → r ≡ sum_of replies_of cs → All Lawful cs → BegunUp (run_of code a b [] (ended Answer.False 0) ∷ cs)
+call_ok : (s : Session) (code a b : ℕ) (cs : List CallRun) (t r : ℕ) → waiting_in cs ≡ 0 → t ≡ r + waiting_in cs → t ≡ sum_of transfers_of cs → r ≡ sum_of replies_of cs → All BothLaws cs → BegunUp (run_of code a b [] (ended Answer.False 0) ∷ cs)
     → (o : Outcome) → Fine code a b [] (fields_of cs) o → StepOk s (call code a b) cs t r o
 call_ok s code a b cs t r w e em eh l bu (sent x s') f = (
   refl,
@@ -89,7 +91,7 @@ call_ok s code a b cs t r w e em eh l bu (answered x n s') f =
 call_ok s code a b cs t r w e em eh l bu (refused x s') f = absurd f
 call_ok s code a b cs t r w e em eh l bu (broken s') f = absurd f
 
-reply_ok : (s : Session) (x₀ : Transfer) (f₀ : ℕ) (bs : List ℕ) (ex : List Exchange) (cs : List CallRun) (t r : ℕ) → waiting_in cs ≡ 0 → t ≡ r + (1 + waiting_in cs) → t ≡ (1 + length ex) + sum_of transfers_of cs → r ≡ length ex + sum_of replies_of cs → All Lawful cs → BegunUp (run_of s.code s.a s.b ex (waiting x₀) ∷ cs)
+reply_ok : (s : Session) (x₀ : Transfer) (f₀ : ℕ) (bs : List ℕ) (ex : List Exchange) (cs : List CallRun) (t r : ℕ) → waiting_in cs ≡ 0 → t ≡ r + (1 + waiting_in cs) → t ≡ (1 + length ex) + sum_of transfers_of cs → r ≡ length ex + sum_of replies_of cs → All BothLaws cs → BegunUp (run_of s.code s.a s.b ex (waiting x₀) ∷ cs)
     → (o : Outcome) → Fine s.code s.a s.b (by x₀ (to_reply f₀ bs) ∷ ex) (fields_of cs) o
     → StepOk s (reply f₀ bs) (run_of s.code s.a s.b ex (waiting x₀) ∷ cs) t r o
 reply_ok s x₀ f₀ bs ex cs t r w e em eh l bu (sent x s') f = (
@@ -126,9 +128,11 @@ told_begun code = go (ops_of (program_of code)) refl (opens_law code)
     go (op ∷ rest) e h = told_first code op rest (known_at code 0 op rest e) h
 
 begun_fine : (s : Session) (code a b : ℕ) (d : Driver) → s.driver ≡ d → arguments_ok code a b ≡ true → not_up code s.driver.up ≡ false
-    → Fine code a b [] d (decide ((program_of code).entry (context_of (begun s code a b))) (program_of code) 0 0 (begun s code a b))
+    → Fine code a b [] d (decide ((program_of code).entry (context_of (begun s code a b))) (program_of code) (length (program_of code).steps) 0 (begun s code a b))
 begun_fine s code a b d e h u =
-    decide_fine (begun s code a b) 0 [] d
+    let t : Session = begun s code a b in
+    rw (over_free ((program_of code).entry (context_of t)) (entry_law code (context_of t)) (program_of code) (length (program_of code).steps) 0 t)
+    (decide_fine (begun s code a b) 0 [] d
     (record {
       between = record { args = h; marked = begun_marked s code a b u; bound = omega arith };
       count = refl;
@@ -139,7 +143,7 @@ begun_fine s code a b d e h u =
       phase = clean tt;
       driver = ap (λ x. cond (eqb code 1) absent x) e;
     })
-    tt 0 ahead ((program_of code).entry (context_of (begun s code a b)))
+    tt 0 ahead ((program_of code).entry (context_of (begun s code a b))))
   where
     ahead : Ahead (begun s code a b) 0 []
     ahead =
@@ -162,7 +166,7 @@ begin_ok s code a b cs t r i (rests e w) =
     (λ h. refused_ok s (call code a b) cs t r Answer.IllFormedRecord i)
     (λ h. cond_case (StepOk s (call code a b) cs t r) (not_up code s.driver.up)
     (λ u. refused_ok s (call code a b) cs t r Answer.NotUp i)
-    (λ u. call_ok s code a b cs t r w i.sum i.made i.heard i.lawful (begun_while_up code (is_up cs) (subst (λ z. not_up code z ≡ false) (ap (λ z. z.up) i.driver ∙ up_is cs) u), i.begun_up) (decide ((program_of code).entry (context_of (begun s code a b))) (program_of code) 0 0 (begun s code a b)) (begun_fine s code a b (fields_of cs) i.driver (not-false (arguments_ok code a b) h) u))))
+    (λ u. call_ok s code a b cs t r w i.sum i.made i.heard i.lawful (begun_while_up code (is_up cs) (subst (λ z. not_up code z ≡ false) (ap (λ z. z.up) i.driver ∙ up_is cs) u), i.begun_up) (decide ((program_of code).entry (context_of (begun s code a b))) (program_of code) (length (program_of code).steps) 0 (begun s code a b)) (begun_fine s code a b (fields_of cs) i.driver (not-false (arguments_ok code a b) h) u))))
 begin_ok s code a b cs t r i (waits op rest m w) =
     rw (code_test s.code s.a s.b m.good.args, good_sound s op rest m.good)
     (cond_case (StepOk s (call code a b) cs t r) (not (arguments_ok code a b))

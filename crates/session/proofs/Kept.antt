@@ -13,9 +13,9 @@ use Rattle.timing.specs.Timeouts.{time_in}
 use Rattle.budget.specs.Budget.{measurement_timing_budget}
 use Rattle.session.specs.Bus.{byte, Reply, bad, good}
 use Rattle.session.specs.Instructions.{Context, Op, write, read, wait, range, bytes_from, put, budget_in}
-use Rattle.session.specs.Parts.{Part, byte_in, range_byte_in, failure_code, own_budget, argument_a, argument_b, bytes_in}
+use Rattle.session.specs.Parts.{Part, byte_in, range_byte_in, failure_code, budget_found, argument_a, argument_b, bytes_in}
 use Rattle.session.specs.AnySession.{keeping}
-use Rattle.session.proofs.Facts.{both, clash}
+use Rattle.ground.proofs.Facts.{both, clash}
 use Rattle.session.proofs.Slots.{length_from, under, above}
 use Rattle.session.proofs.Uses.{part_in, On}
 
@@ -44,43 +44,43 @@ inside (a ∷ vs) l l' k i e h h' =
 -- a reply brings the part, whatever was there before
 abbrev pub brings : Op → Part → Bool
 brings (write reg bytes len over after) p = false
-brings (read reg len slot over after) (byte_in i) = leb slot i && ltb i (slot + len)
-brings (read reg len slot over after) (range_byte_in i) = false
-brings (read reg len slot over after) failure_code = false
-brings (read reg len slot over after) own_budget = eqb slot 15 && leb 1 len
-brings (read reg len slot over after) argument_a = false
-brings (read reg len slot over after) argument_b = false
+brings (read reg len slot finds over after) (byte_in i) = leb slot i && ltb i (slot + len)
+brings (read reg len slot finds over after) (range_byte_in i) = false
+brings (read reg len slot finds over after) failure_code = false
+brings (read reg len slot finds over after) budget_found = finds && (eqb slot 15 && leb 1 len)
+brings (read reg len slot finds over after) argument_a = false
+brings (read reg len slot finds over after) argument_b = false
 brings (wait w) p = false
-brings range (byte_in i) = false
-brings range (range_byte_in i) = leb 4 i && ltb i 6
-brings range failure_code = true
-brings range own_budget = false
-brings range argument_a = false
-brings range argument_b = false
+brings (range reg len slot over) (byte_in i) = false
+brings (range reg len slot over) (range_byte_in i) = leb slot i && ltb i (slot + len)
+brings (range reg len slot over) failure_code = true
+brings (range reg len slot over) budget_found = false
+brings (range reg len slot over) argument_a = false
+brings (range reg len slot over) argument_b = false
 
 -- or leaves it as it was
 abbrev pub leaves : Op → Part → Bool
 leaves (write reg bytes len over after) p = true
-leaves (read reg len slot over after) (byte_in i) = ltb i slot || leb (slot + len) i
-leaves (read reg len slot over after) (range_byte_in i) = ltb i slot || leb (slot + len) i
-leaves (read reg len slot over after) failure_code = true
-leaves (read reg len slot over after) own_budget = not (eqb slot 15)
-leaves (read reg len slot over after) argument_a = true
-leaves (read reg len slot over after) argument_b = true
+leaves (read reg len slot finds over after) (byte_in i) = ltb i slot || leb (slot + len) i
+leaves (read reg len slot finds over after) (range_byte_in i) = ltb i slot || leb (slot + len) i
+leaves (read reg len slot finds over after) failure_code = true
+leaves (read reg len slot finds over after) budget_found = not finds
+leaves (read reg len slot finds over after) argument_a = true
+leaves (read reg len slot finds over after) argument_b = true
 leaves (wait w) p = true
-leaves range (byte_in i) = ltb i 4 || leb 6 i
-leaves range (range_byte_in i) = false
-leaves range failure_code = false
-leaves range own_budget = true
-leaves range argument_a = true
-leaves range argument_b = true
+leaves (range reg len slot over) (byte_in i) = ltb i slot || leb (slot + len) i
+leaves (range reg len slot over) (range_byte_in i) = false
+leaves (range reg len slot over) failure_code = false
+leaves (range reg len slot over) budget_found = true
+leaves (range reg len slot over) argument_a = true
+leaves (range reg len slot over) argument_b = true
 
 -- the budget is made of the bytes before the last
 abbrev pub sources : Op → List Part
 sources (write reg bytes len over after) = []
-sources (read reg len slot over after) = cond (eqb slot 15) (bytes_in 8 7) []
+sources (read reg len slot finds over after) = cond finds (bytes_in 8 7) []
 sources (wait w) = []
-sources range = []
+sources (range reg len slot over) = []
 
 pub either : {A : Type 0} (a b : Bool) → a || b ≡ true → (a ≡ true → A) → (b ≡ true → A) → A
 either true b h f g = f refl
@@ -102,10 +102,10 @@ within_both i slot len l l' bs e h =
 -- a good reply, or any reply to a range read
 abbrev pub Goes : Op → Reply → Type 0
 Goes (write reg bytes len over after) r = Unit {0}
-Goes (read reg len slot over after) (bad e) = ⊥
-Goes (read reg len slot over after) (good bs) = Unit {0}
+Goes (read reg len slot finds over after) (bad e) = ⊥
+Goes (read reg len slot finds over after) (good bs) = Unit {0}
 Goes (wait w) r = Unit {0}
-Goes range r = Unit {0}
+Goes (range reg len slot over) r = Unit {0}
 
 -- the budget that the last of the first six replies gives
 budget_same : (len : ℕ) (c c' : Context) (bs : List ℕ) → length c.carried ≡ length c'.carried → leb 1 len ≡ true → On (bytes_in 8 7) c c'
@@ -128,51 +128,52 @@ budget_same len c c' bs m h o = ap (λ l. (time_in (measurement_timing_budget (r
 pub brought : (op : Op) (r : Reply) (p : Part) (c c' : Context) → Goes op r → length c.carried ≡ length c'.carried → On (sources op) c c' → brings op p ≡ true
     → part_in p (keeping c op r) ≡ part_in p (keeping c' op r)
 brought (write reg bytes len over after) r p c c' g m o h = clash cc
-brought (read reg len slot over after) (bad e) p c c' g m o h = absurd g
-brought (read reg len slot over after) (good bs) (byte_in i) c c' g m o h = within_both i slot len c.carried c'.carried bs m h
-brought (read reg len slot over after) (good bs) (range_byte_in i) c c' g m o h = clash cc
-brought (read reg len slot over after) (good bs) failure_code c c' g m o h = clash cc
-brought (read reg len slot over after) (good bs) own_budget c c' g m o h =
-    let q = both (eqb slot 15) (leb 1 len) h in
-    let at : slot ≡ 15 = eqb-true slot 15 q.0 in
+brought (read reg len slot finds over after) (bad e) p c c' g m o h = absurd g
+brought (read reg len slot finds over after) (good bs) (byte_in i) c c' g m o h = within_both i slot len c.carried c'.carried bs m h
+brought (read reg len slot finds over after) (good bs) (range_byte_in i) c c' g m o h = clash cc
+brought (read reg len slot finds over after) (good bs) failure_code c c' g m o h = clash cc
+brought (read reg len slot finds over after) (good bs) budget_found c c' g m o h =
+    let q = both finds (eqb slot 15 && leb 1 len) h in
+    let q' = both (eqb slot 15) (leb 1 len) q.1 in
+    let at : slot ≡ 15 = eqb-true slot 15 q'.0 in
     let o' : On (bytes_in 8 7) c c' = rw q.0 at o in
-    rw (at) (budget_same len c c' bs m q.1 o')
-brought (read reg len slot over after) (good bs) argument_a c c' g m o h = clash cc
-brought (read reg len slot over after) (good bs) argument_b c c' g m o h = clash cc
+    rw (q.0, at) (budget_same len c c' bs m q'.1 o')
+brought (read reg len slot finds over after) (good bs) argument_a c c' g m o h = clash cc
+brought (read reg len slot finds over after) (good bs) argument_b c c' g m o h = clash cc
 brought (wait w) r p c c' g m o h = clash cc
-brought range r (byte_in i) c c' g m o h = clash cc
-brought range (bad e) (range_byte_in i) c c' g m o h = rw (ne_eqb (suc e) 0 (λ z. omega (arith, z))) refl
-brought range (good bs) (range_byte_in i) c c' g m o h = within_both i 4 2 c.carried c'.carried bs m h
-brought range (bad e) failure_code c c' g m o h = refl
-brought range (good bs) failure_code c c' g m o h = refl
-brought range r own_budget c c' g m o h = clash cc
-brought range r argument_a c c' g m o h = clash cc
-brought range r argument_b c c' g m o h = clash cc
+brought (range reg len slot over) r (byte_in i) c c' g m o h = clash cc
+brought (range reg len slot over) (bad e) (range_byte_in i) c c' g m o h = rw (ne_eqb (suc e) 0 (λ z. omega (arith, z))) refl
+brought (range reg len slot over) (good bs) (range_byte_in i) c c' g m o h = within_both i slot len c.carried c'.carried bs m h
+brought (range reg len slot over) (bad e) failure_code c c' g m o h = refl
+brought (range reg len slot over) (good bs) failure_code c c' g m o h = refl
+brought (range reg len slot over) r budget_found c c' g m o h = clash cc
+brought (range reg len slot over) r argument_a c c' g m o h = clash cc
+brought (range reg len slot over) r argument_b c c' g m o h = clash cc
 
 pub left_alone : (op : Op) (r : Reply) (p : Part) (c : Context) → Goes op r → leaves op p ≡ true → part_in p (keeping c op r) ≡ part_in p c
 left_alone (write reg bytes len over after) r (byte_in i) c g h = refl
 left_alone (write reg bytes len over after) r (range_byte_in i) c g h = refl
 left_alone (write reg bytes len over after) r failure_code c g h = refl
-left_alone (write reg bytes len over after) r own_budget c g h = refl
+left_alone (write reg bytes len over after) r budget_found c g h = refl
 left_alone (write reg bytes len over after) r argument_a c g h = refl
 left_alone (write reg bytes len over after) r argument_b c g h = refl
-left_alone (read reg len slot over after) (bad e) p c g h = absurd g
-left_alone (read reg len slot over after) (good bs) (byte_in i) c g h = outside i slot len c.carried bs h
-left_alone (read reg len slot over after) (good bs) (range_byte_in i) c g h = ap (λ x. cond (eqb c.failed 0) x 0) (outside i slot len c.carried bs h)
-left_alone (read reg len slot over after) (good bs) failure_code c g h = refl
-left_alone (read reg len slot over after) (good bs) own_budget c g h = rw (not-true (eqb slot 15) h) refl
-left_alone (read reg len slot over after) (good bs) argument_a c g h = refl
-left_alone (read reg len slot over after) (good bs) argument_b c g h = refl
+left_alone (read reg len slot finds over after) (bad e) p c g h = absurd g
+left_alone (read reg len slot finds over after) (good bs) (byte_in i) c g h = outside i slot len c.carried bs h
+left_alone (read reg len slot finds over after) (good bs) (range_byte_in i) c g h = ap (λ x. cond (eqb c.failed 0) x 0) (outside i slot len c.carried bs h)
+left_alone (read reg len slot finds over after) (good bs) failure_code c g h = refl
+left_alone (read reg len slot finds over after) (good bs) budget_found c g h = rw (not-true finds h) refl
+left_alone (read reg len slot finds over after) (good bs) argument_a c g h = refl
+left_alone (read reg len slot finds over after) (good bs) argument_b c g h = refl
 left_alone (wait w) r (byte_in i) c g h = refl
 left_alone (wait w) r (range_byte_in i) c g h = refl
 left_alone (wait w) r failure_code c g h = refl
-left_alone (wait w) r own_budget c g h = refl
+left_alone (wait w) r budget_found c g h = refl
 left_alone (wait w) r argument_a c g h = refl
 left_alone (wait w) r argument_b c g h = refl
-left_alone range (bad e) (byte_in i) c g h = refl
-left_alone range (good bs) (byte_in i) c g h = outside i 4 2 c.carried bs h
-left_alone range r (range_byte_in i) c g h = clash cc
-left_alone range r failure_code c g h = clash cc
-left_alone range r own_budget c g h = refl
-left_alone range r argument_a c g h = refl
-left_alone range r argument_b c g h = refl
+left_alone (range reg len slot over) (bad e) (byte_in i) c g h = refl
+left_alone (range reg len slot over) (good bs) (byte_in i) c g h = outside i slot len c.carried bs h
+left_alone (range reg len slot over) r (range_byte_in i) c g h = clash cc
+left_alone (range reg len slot over) r failure_code c g h = clash cc
+left_alone (range reg len slot over) r budget_found c g h = refl
+left_alone (range reg len slot over) r argument_a c g h = refl
+left_alone (range reg len slot over) r argument_b c g h = refl

@@ -1,5 +1,4 @@
 -- common
-pub mod Facts
 pub mod Table
 pub mod Slots
 pub mod Good
@@ -51,6 +50,7 @@ pub mod Value
 pub mod Up
 pub mod Fields
 -- one reply, one record, one list
+pub mod Lawful
 pub mod Arrivals
 pub mod React
 pub mod Keeps
@@ -65,6 +65,8 @@ pub mod Course
 pub mod Rest
 pub mod Failed
 pub mod Carried
+-- call 9 whole
+pub mod SetBudget
 -- waits over any limit, and values
 pub mod Waits
 pub mod Bench

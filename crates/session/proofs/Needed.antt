@@ -12,10 +12,11 @@ use Rattle.session.specs.Instructions.{Instruction, Context, kept_bytes, Op, wri
 use Rattle.session.specs.Steps.{op_of}
 use Rattle.session.specs.Calls.{Program, tuning, programs, program_of}
 use Rattle.session.specs.Machine.{Session, sent, answered, held_by, address_of, resting, context_of, kept_of, sending, giving, conclude, enter, arrive, stray, outstanding}
-use Rattle.session.specs.Records.{reply, step_def}
-use Rattle.session.specs.Parts.{Part, byte_in, range_byte_in, failure_code, own_budget, argument_a, argument_b, needed_rows, needed, sent_rows, sent_from}
+use Rattle.session.specs.Records.{reply}
+use Rattle.session.specs.History.{step_def}
+use Rattle.session.specs.Parts.{Part, byte_in, range_byte_in, failure_code, budget_found, argument_a, argument_b, needed_rows, needed, sent_rows, sent_from}
 use Rattle.session.specs.AnySession.{AllSame, AgreeOn, Agree, Alike, same_transfer, same_answer, same_refusal, DependsOnNeeded, SentFrom, IgnoresReadBack}
-use Rattle.session.proofs.Facts.{both}
+use Rattle.ground.proofs.Facts.{both}
 use Rattle.session.proofs.Trace.{length_kept}
 use Rattle.session.proofs.Table.{of_test}
 use Rattle.session.proofs.Cut.{stray_is}
@@ -82,7 +83,7 @@ all_parts [] s s' o = tt
 all_parts (byte_in i ∷ ps) s s' o = (o.0, all_parts ps s s' o.1)
 all_parts (range_byte_in i ∷ ps) s s' o = (o.0, all_parts ps s s' o.1)
 all_parts (failure_code ∷ ps) s s' o = (o.0, all_parts ps s s' o.1)
-all_parts (own_budget ∷ ps) s s' o = (o.0, all_parts ps s s' o.1)
+all_parts (budget_found ∷ ps) s s' o = (o.0, all_parts ps s s' o.1)
 all_parts (argument_a ∷ ps) s s' o = (o.0, all_parts ps s s' o.1)
 all_parts (argument_b ∷ ps) s s' o = (o.0, all_parts ps s s' o.1)
 
@@ -91,7 +92,7 @@ parts_on [] s s' o = tt
 parts_on (byte_in i ∷ ps) s s' o = (o.0, parts_on ps s s' o.1)
 parts_on (range_byte_in i ∷ ps) s s' o = (o.0, parts_on ps s s' o.1)
 parts_on (failure_code ∷ ps) s s' o = (o.0, parts_on ps s s' o.1)
-parts_on (own_budget ∷ ps) s s' o = (o.0, parts_on ps s s' o.1)
+parts_on (budget_found ∷ ps) s s' o = (o.0, parts_on ps s s' o.1)
 parts_on (argument_a ∷ ps) s s' o = (o.0, parts_on ps s s' o.1)
 parts_on (argument_b ∷ ps) s s' o = (o.0, parts_on ps s s' o.1)
 
@@ -105,9 +106,9 @@ send_same i c c' m o = go (op_of i) (sends_from i)
     go : (op : Op) → SendsFrom op (sends_of i) → send_of op c ≡ send_of op c'
     go (write reg bytes len over after) d =
         ap (λ b. transfer_of c.address (reg ∷ b) len) (d c c' m o) ∙ ap (λ a. transfer_of a (reg ∷ bytes c') len) m.address
-    go (read reg len slot over after) d = rw m.address refl
+    go (read reg len slot finds over after) d = rw m.address refl
     go (wait w) d = rw m.address refl
-    go range d = rw m.address refl
+    go (range reg len slot over) d = rw m.address refl
 
 pub kept_room : (op : Op) (r : Reply) (s s' : Session) → length s.carried ≡ length s'.carried → length (kept_bytes op r s.carried) ≡ length (kept_bytes op r s'.carried)
 kept_room op r s s' e = length_kept op r s.carried ∙ e ∙ sym (length_kept op r s'.carried)
@@ -213,6 +214,6 @@ ignores_read_back s bs bs' u two h h' =
         met_at s s.code s.step i is 0 bs refl refl u at
         ∙ rw (n, n', z) refl
         ∙ sym (met_at s s.code s.step i is 0 bs' refl refl u at)
-    go (read reg len slot over after) i is at z two h h' = absurd (omega (arith, two))
+    go (read reg len slot finds over after) i is at z two h h' = absurd (omega (arith, two))
     go (wait w) i is at z two h h' = absurd (omega (arith, two))
-    go range i is at z two h h' = absurd (omega (arith, two))
+    go (range reg len slot over) i is at z two h h' = absurd (omega (arith, two))

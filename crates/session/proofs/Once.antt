@@ -3,7 +3,7 @@ use mathlib.Core.Bool.{cond}
 use mathlib.Core.List.{List, [], ◌∷◌}
 use Prim.Native.Nat.{ℕ, ◌+◌, ◌-◌, ◌*◌, ◌/◌}
 use lib.Dec.{eqb, ltb}
-use Rattle.std.specs.Prelude.{◌≡◌, refl, true, Option, None, Some, is_none}
+use Rattle.std.specs.Prelude.{◌≡◌, refl, true, false, Option, None, Some, is_none}
 use Rattle.clock.specs.declared.Place.{Place}
 use Rattle.clock.specs.Places.{place_number}
 use Rattle.clock.specs.Clock.{macro_period}
@@ -14,9 +14,10 @@ use Rattle.timing.specs.Places.{entries_of}
 use Rattle.budget.specs.declared.DssTerm.{DssTerm}
 use Rattle.budget.specs.Sums.{used_sum}
 use Rattle.budget.specs.Budget.{with_pre}
-use Rattle.session.proofs.Facts.{clash}
-use Rattle.session.specs.Instructions.{Instruction, panics, Verdict, onward, stop, test, Op, read, timing_in}
-use Rattle.session.specs.Steps.{budget_to_set, no_time, over_last, timing_register, timing_length, timing_place, op_of}
+use Rattle.ground.proofs.Facts.{clash}
+use Rattle.session.specs.declared.Setting.{Setting}
+use Rattle.session.specs.Instructions.{Instruction, panics, Verdict, onward, stop, test, Op, read, timing_slot, timing_in}
+use Rattle.session.specs.Steps.{dss_of_call9, budget_to_set, no_time, over_last, timing_register, timing_length, timing_place, op_of}
 
 -- the number of a place (SCOPE 9.4), or 0
 abbrev pub number : Option Place → ℕ
@@ -41,31 +42,35 @@ by_places (p ∷ ps) v = test (is_none p) (by_places ps v) (stop (panics (number
 abbrev pub final_macro : TimingRegisters → ℕ
 final_macro r = (macro_period (period_clocks r.finalperiod)).0
 
-abbrev pub spare_sum : TimingRegisters → ℕ → ℕ
-spare_sum r budget = (budget - (used_sum r DssTerm.Once).0) * 1000 + final_macro r / 2
+abbrev pub spare_sum : DssTerm → TimingRegisters → ℕ → ℕ
+spare_sum dss r budget = (budget - (used_sum r dss).0) * 1000 + final_macro r / 2
 
-abbrev pub total_clocks : TimingRegisters → ℕ → ℕ
-total_clocks r budget = with_pre (record { 0 = spare_sum r budget / final_macro r }) (pre_share r)
+abbrev pub total_clocks : DssTerm → TimingRegisters → ℕ → ℕ
+total_clocks dss r budget = with_pre (record { 0 = spare_sum dss r budget / final_macro r }) (pre_share r)
 
-abbrev pub word_tests : Verdict → TimingRegisters → ℕ → Verdict
-word_tests short r budget =
-    test (ltb budget (used_sum r DssTerm.Once).0) short
-    (test (ltb 4294967295 (spare_sum r budget)) (stop (panics 7))
+abbrev pub word_tests : DssTerm → Verdict → TimingRegisters → ℕ → Verdict
+word_tests dss short r budget =
+    test (ltb budget (used_sum r dss).0) short
+    (test (ltb 4294967295 (spare_sum dss r budget)) (stop (panics 7))
     (test (eqb (final_macro r) 0) (stop (panics 8))
-    (test (ltb 65535 (total_clocks r budget)) (stop (panics 9)) onward)))
+    (test (ltb 65535 (total_clocks dss r budget)) (stop (panics 9)) onward)))
 
 abbrev pub once_timing : ℕ → ℕ → Op
-once_timing n k = read (timing_register n) (timing_length n) (k + timing_place n) 0 (λ c. by_places (places_at n (entries_of (timing_in k c.carried))) onward)
+once_timing n k = read (timing_register n) (timing_length n) (k + timing_place n) false 0 (λ c. by_places (places_at n (entries_of (timing_in k c.carried))) onward)
 
-abbrev pub once_last : ℕ → Op
-once_last k =
-    read 0x70 1 (k + 7) (over_last k)
-    (λ c. by_places (places_at 6 (entries_of (timing_in k c.carried))) (word_tests (no_time k) (timing_in k c.carried) (budget_to_set k c)))
+abbrev pub once_found : Op
+once_found = read 0x70 1 (timing_slot + 7) true 0 (λ c. by_places (places_at 6 (entries_of (timing_in timing_slot c.carried))) onward)
+
+abbrev pub once_last : ℕ → Setting → Op
+once_last k x =
+    read 0x70 1 (k + 7) false (over_last x)
+    (λ c. by_places (places_at 6 (entries_of (timing_in k c.carried))) (word_tests dss_of_call9 (no_time x) (timing_in k c.carried) (budget_to_set x c)))
 
 -- a budget read that makes tests again, or another instruction
 pub data Kind : Instruction → Type 0 where
   timing : (n k : ℕ) → Kind (Instruction.ReadTiming n k)
-  last : (k : ℕ) → Kind (Instruction.ReadLast k)
+  found : Kind Instruction.FindBudget
+  last : (k : ℕ) (x : Setting) → Kind (Instruction.ReadLast k x)
   other : {i : Instruction} → Kind i
 
 abbrev pub kind_of : (i : Instruction) → Kind i
@@ -92,17 +97,17 @@ kind_of Instruction.WriteFunction = other
 kind_of Instruction.WritePolarity = other
 kind_of Instruction.ReadStatus = other
 kind_of (Instruction.ReadTiming n k) = timing n k
-kind_of (Instruction.ReadLast k) = last k
+kind_of Instruction.FindBudget = found
+kind_of (Instruction.ReadLast k x) = last k x
 kind_of Instruction.WriteSteps = other
-kind_of (Instruction.WriteWord k) = other
-kind_of Instruction.AwaitDetector = other
-kind_of Instruction.AwaitStatus = other
-kind_of Instruction.AwaitStart = other
-kind_of Instruction.ReadRange = other
+kind_of (Instruction.WriteWord k x) = other
+kind_of (Instruction.Await x) = other
+kind_of (Instruction.ReadRange reg n k over) = other
 
 abbrev pub once_by : {i : Instruction} → Kind i → Op
 once_by (timing n k) = once_timing n k
-once_by (last k) = once_last k
+once_by found = once_found
+once_by (last k x) = once_last k x
 once_by (other {i}) = op_of i
 
 abbrev pub once_of : Instruction → Op

@@ -6,16 +6,16 @@ use Prim.Native.Nat.{ℕ, zero, suc, ◌+◌, ◌-◌, ◌≤◌, ◌<◌}
 use native.Mathlib.Omega.{arith}
 use borrow.Author.Tests.{leb-false, ltb-true, ltb-false}
 use lib.Dec.{ltb}
-use lib.ListN.{drop}
+use lib.ListN.{drop, length}
 use lib.Seq.{drop-drop}
 use Rattle.session.specs.Bus.{Answer, Reply, bad, good, zero_from, clean_from, Condition, wait_limit, idle_on}
 use Rattle.session.specs.Instructions.{stop_answer, Verdict, onward, leap, stop, test, Op, write, read, wait, range, Final, success, failure, send_of, read_wins, report_of}
 use Rattle.session.specs.Calls.{ops_of, program_of}
 use Rattle.session.specs.Machine.{Session, Outcome, sent, context_of, kept_of, sending, giving, conclude, enter, arrive, decide, react, stray, on_ops, first_transfer_out, idle_wrong, reply_def, begun, begin_def}
-use Rattle.session.specs.Records.{step_def}
+use Rattle.session.specs.History.{step_def}
 use Rattle.session.specs.Script.{Script, done, wait_loop, cut}
 use Rattle.session.specs.AnySession.{concluded, decided, failing, resume, resume_in, left_of, hears, OneMore, StandsAt, BeginsAt, StepByStep}
-use Rattle.session.proofs.Facts.{drop_next, untrue}
+use Rattle.ground.proofs.Facts.{drop_next, untrue}
 use Rattle.session.proofs.Cut.{stray_is, react_cut}
 use Rattle.session.proofs.Strays.{sound_step}
 use Rattle.session.proofs.Refused.{sound_of}
@@ -61,15 +61,20 @@ module _ (s : Session) where
   branch true o o' x x' p q = p
   branch false o o' x x' p q = q
 
-  pub decides_stands : (v : Verdict) (over k : ℕ) (t : Session) (rest : List Op) → Alike s t → drop k (ops_of (program_of t.code)) ≡ rest
-      → StandsAt s (decide v (program_of t.code) over k t) (decided v over (context_of t) (λ n. resume (program_of t.code).final n rest (context_of t)))
-  decides_stands onward over k t rest q e =
-      subst (λ l. StandsAt s (arrive (program_of t.code) k t) (resume (program_of t.code).final zero l (context_of t))) e (arrives_stands k t q)
-  decides_stands leap over k t rest q e =
+  -- over some of the instructions that are left
+  leaps_stands : (over k : ℕ) (t : Session) (rest : List Op) → Alike s t → drop k (ops_of (program_of t.code)) ≡ rest
+      → StandsAt s (arrive (program_of t.code) (k + over) t) (resume (program_of t.code).final over rest (context_of t))
+  leaps_stands over k t rest q e =
       subst (λ x. StandsAt s (arrive (program_of t.code) (k + over) t) x)
       (ap (λ l. resume (program_of t.code).final zero l (context_of t)) (sym (drop-drop over k (ops_of (program_of t.code))) ∙ ap (drop over) e)
       ∙ sym (resume_skip (program_of t.code).final over rest (context_of t)))
       (arrives_stands (k + over) t q)
+
+  pub decides_stands : (v : Verdict) (over k : ℕ) (t : Session) (rest : List Op) → Alike s t → drop k (ops_of (program_of t.code)) ≡ rest
+      → StandsAt s (decide v (program_of t.code) over k t) (decided v over (context_of t) (λ n. resume (program_of t.code).final n rest (context_of t)))
+  decides_stands onward over k t rest q e =
+      subst (λ l. StandsAt s (arrive (program_of t.code) k t) (resume (program_of t.code).final zero l (context_of t))) e (arrives_stands k t q)
+  decides_stands leap over k t rest q e = leaps_stands over k t rest q e
   decides_stands (stop x) over k t rest q e = gives_stands (stop_answer x) t q
   decides_stands (test b v w) over k t rest q e =
       branch b (decide v (program_of t.code) over k t) (decide w (program_of t.code) over k t)
@@ -125,17 +130,16 @@ module _ (s : Session) where
   reacts_stands (write reg bytes len over after) rest (bad e) at h = gives_stands (Answer.BusError (report_of (read_wins s.code) s.failed (suc e))) s (alike s)
   reacts_stands (write reg bytes len over after) rest (good bs) at h =
       decides_stands (after (context_of s)) over (suc s.step) s rest (alike s) (drop_next s.step (ops_of (program_of s.code)) at)
-  reacts_stands (read reg len slot over after) rest (bad e) at h = gives_stands (Answer.BusError (suc e)) s (alike s)
-  reacts_stands (read reg len slot over after) rest (good bs) at h =
-      let t : Session = kept_of s (read reg len slot over after) (good bs) in
+  reacts_stands (read reg len slot finds over after) rest (bad e) at h = gives_stands (Answer.BusError (suc e)) s (alike s)
+  reacts_stands (read reg len slot finds over after) rest (good bs) at h =
+      let t : Session = kept_of s (read reg len slot finds over after) (good bs) in
       decides_stands (after (context_of t)) over (suc s.step) t rest (record { driver = refl; code = refl; a = refl; b = refl; transfers = refl }) (drop_next s.step (ops_of (program_of s.code)) at)
   reacts_stands (wait w) rest r at h = wait_stands w rest r (wait_limit s.code w - s.idle) at refl (leb-false (wait_limit s.code w) s.idle h)
-  reacts_stands range rest (bad e) at h =
-      let t : Session = kept_of s range (bad e) in
-      subst (λ l. StandsAt s (arrive (program_of s.code) (suc s.step) t) (resume (program_of s.code).final zero l (context_of t)))
-      (drop_next s.step (ops_of (program_of s.code)) at) (arrives_stands (suc s.step) t (record { driver = refl; code = refl; a = refl; b = refl; transfers = refl }))
-  reacts_stands range rest (good bs) at h =
-      let t : Session = kept_of s range (good bs) in
+  reacts_stands (range reg len slot over) rest (bad e) at h =
+      let t : Session = kept_of s (range reg len slot over) (bad e) in
+      leaps_stands over (suc s.step) t rest (record { driver = refl; code = refl; a = refl; b = refl; transfers = refl }) (drop_next s.step (ops_of (program_of s.code)) at)
+  reacts_stands (range reg len slot over) rest (good bs) at h =
+      let t : Session = kept_of s (range reg len slot over) (good bs) in
       subst (λ l. StandsAt s (arrive (program_of s.code) (suc s.step) t) (resume (program_of s.code).final zero l (context_of t)))
       (drop_next s.step (ops_of (program_of s.code)) at) (arrives_stands (suc s.step) t (record { driver = refl; code = refl; a = refl; b = refl; transfers = refl }))
 
@@ -157,4 +161,4 @@ pub begins_at : (s : Session) (code a b : ℕ) → BeginsAt s code a b
 unfolding begin_def step_def
 begins_at s code a b c =
     rw (c.none_waiting, range_is code a b ∙ c.arguments, ready_ok s code c.ready)
-    (decides_stands (begun s code a b) ((program_of code).entry (context_of (begun s code a b))) 0 0 (begun s code a b) (ops_of (program_of code)) (alike (begun s code a b)) refl)
+    (decides_stands (begun s code a b) ((program_of code).entry (context_of (begun s code a b))) (length (program_of code).steps) 0 (begun s code a b) (ops_of (program_of code)) (alike (begun s code a b)) refl)

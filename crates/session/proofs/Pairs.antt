@@ -14,11 +14,12 @@ use Rattle.session.specs.Instructions.{Instruction, Context, stop_answer, Verdic
 use Rattle.session.specs.Steps.{op_of}
 use Rattle.session.specs.Calls.{Program, ops_of, program_of}
 use Rattle.session.specs.Machine.{Session, Outcome, sent, context_of, kept_of, sending, giving, arrive, decide, react, to_reply, stray, idle_wrong, malformed, refused, reply_def, outstanding}
-use Rattle.session.specs.Records.{reply, step_def}
+use Rattle.session.specs.Records.{reply}
+use Rattle.session.specs.History.{step_def}
 use Rattle.session.specs.Refusals.{Underway}
-use Rattle.session.specs.Parts.{Part, byte_in, range_byte_in, failure_code, own_budget, argument_a, argument_b}
+use Rattle.session.specs.Parts.{Part, byte_in, range_byte_in, failure_code, budget_found, argument_a, argument_b}
 use Rattle.session.specs.AnySession.{keeping}
-use Rattle.session.proofs.Facts.{both, clash, untrue, drop_next}
+use Rattle.ground.proofs.Facts.{both, clash, untrue, drop_next}
 use Rattle.session.proofs.Cut.{stray_is}
 use Rattle.session.proofs.Strays.{sound_step}
 use Rattle.session.proofs.Refused.{sound_of}
@@ -31,7 +32,7 @@ abbrev pub kind : Part → ℕ
 kind (byte_in i) = 0
 kind (range_byte_in i) = 1
 kind failure_code = 2
-kind own_budget = 3
+kind budget_found = 3
 kind argument_a = 4
 kind argument_b = 5
 
@@ -39,18 +40,18 @@ abbrev pub index : Part → ℕ
 index (byte_in i) = i
 index (range_byte_in i) = i
 index failure_code = 0
-index own_budget = 0
+index budget_found = 0
 index argument_a = 0
 index argument_b = 0
 
 abbrev by_number : ℕ → ℕ → Context → ℕ
-by_number k i c = get_or (byte i c.carried ∷ cond (eqb c.failed 0) (byte i c.carried) 0 ∷ c.failed ∷ c.own ∷ c.a ∷ c.b ∷ []) k 0
+by_number k i c = get_or (byte i c.carried ∷ cond (eqb c.failed 0) (byte i c.carried) 0 ∷ c.failed ∷ c.found_budget ∷ c.a ∷ c.b ∷ []) k 0
 
 numbered : (p : Part) (c : Context) → part_in p c ≡ by_number (kind p) (index p) c
 numbered (byte_in i) c = refl
 numbered (range_byte_in i) c = refl
 numbered failure_code c = refl
-numbered own_budget c = refl
+numbered budget_found c = refl
 numbered argument_a c = refl
 numbered argument_b c = refl
 
@@ -123,9 +124,9 @@ walk_at ok l k i is h e = subst (λ m. ok m i is ≡ true) (zero-add k) (walk_fr
 -- the read length is the instruction's
 reads_same : (op : Op) (c c' : Context) → (send_of op c).reads ≡ (send_of op c').reads
 reads_same (write reg bytes len over after) c c' = refl
-reads_same (read reg len slot over after) c c' = refl
+reads_same (read reg len slot finds over after) c c' = refl
 reads_same (wait w) c c' = refl
-reads_same range c c' = refl
+reads_same (range reg len slot over) c c' = refl
 
 pub strays_same : (op : Op) (s s' : Session) (f : ℕ) (bs : List ℕ) → stray (send_of op (context_of s)) f bs ≡ stray (send_of op (context_of s')) f bs
 strays_same op s s' f bs =
@@ -165,9 +166,9 @@ out_at s code k i is e e' at =
 -- what a failed write looks at
 abbrev pub reports : Op → List Part → List Part
 reports (write reg bytes len over after) ps = ps
-reports (read reg len slot over after) ps = []
+reports (read reg len slot finds over after) ps = []
 reports (wait w) ps = []
-reports range ps = []
+reports (range reg len slot over) ps = []
 
 -- at each step: what is looked at there, and at an arrival at the next, is brought by the reply or agreed before it.
 -- `known k` has the parts that agree at step k, `arrival k is` what an arrival there looks at, `failed` what a failed write does
@@ -264,11 +265,16 @@ module _ (code : ℕ) (R : Outcome → Outcome → Type 0) (Pair : Session → S
         after_on : (r : Reply) → Goes (op_of i) r → On (decides_of i) (context_of (kept_of s (op_of i) r)) (context_of (kept_of s' (op_of i) r))
         after_on r g = kept_on r (decides_of i) g fits.decided
 
-        on_range : (r : Reply) → Goes (op_of i) r → op_of i ≡ range → R (arrive prog (suc s.step) (kept_of s range r)) (arrive prog (suc s'.step) (kept_of s' range r))
-        on_range r g z =
-            subst (λ n. R (arrive prog (suc n) (kept_of s range r)) (arrive prog (suc s'.step) (kept_of s' range r))) (sym e)
-            (subst (λ n. R (arrive prog (suc k) (kept_of s range r)) (arrive prog (suc n) (kept_of s' range r))) (sym e')
-            (arrives (suc k) (kept_of s range r) (kept_of s' range r) (kept s s' range r t) (rw z at (next_on r g))))
+        -- to a step, in both sessions
+        goes_to : (n : ℕ) (u u' : Session) → R (arrive prog (suc k + n) u) (arrive prog (suc k + n) u') → R (arrive prog (suc s.step + n) u) (arrive prog (suc s'.step + n) u')
+        goes_to n u u' h =
+            subst (λ m. R (arrive prog (suc m + n) u) (arrive prog (suc s'.step + n) u')) (sym e)
+            (subst (λ m. R (arrive prog (suc k + n) u) (arrive prog (suc m + n) u')) (sym e') h)
+
+        goes_by : (u u' : Session) → R (arrive prog (suc k) u) (arrive prog (suc k) u') → R (arrive prog (suc s.step) u) (arrive prog (suc s'.step) u')
+        goes_by u u' h =
+            subst (λ m. R (arrive prog (suc m) u) (arrive prog (suc s'.step) u')) (sym e)
+            (subst (λ m. R (arrive prog (suc k) u) (arrive prog (suc m) u')) (sym e') h)
 
         waits : (w : Condition) → op_of i ≡ wait w → (bs : List ℕ) → (x y : Bool) → R
             (cond x (cond y (sent (send_of (wait w) (context_of s)) (sending k (suc s.idle) s)) (giving Answer.Timeout s)) (arrive prog (suc k) s))
@@ -290,9 +296,9 @@ module _ (code : ℕ) (R : Outcome → Outcome → Type 0) (Pair : Session → S
             let a : after (context_of s) ≡ after (context_of s') = d (context_of s) (context_of s') (rw z at (after_on (good bs) (rw z tt))) in
             decides_at (after (context_of s)) (after (context_of s')) over s s' a
             (decides (after (context_of s)) over (suc k) s s' t (rw z at (next_on (good bs) (rw z tt))) (rw z at (leap_on (good bs) (rw z tt))))
-        go (read reg len slot over after) z d (bad x) = gives (Answer.BusError (suc x)) s s' t
-        go (read reg len slot over after) z d (good bs) =
-            let op' : Op = read reg len slot over after in
+        go (read reg len slot finds over after) z d (bad x) = gives (Answer.BusError (suc x)) s s' t
+        go (read reg len slot finds over after) z d (good bs) =
+            let op' : Op = read reg len slot finds over after in
             let u : Session = kept_of s op' (good bs) in
             let u' : Session = kept_of s' op' (good bs) in
             let a : after (context_of u) ≡ after (context_of u') = d (context_of u) (context_of u') (rw z at (after_on (good bs) (rw z tt))) in
@@ -305,8 +311,14 @@ module _ (code : ℕ) (R : Outcome → Outcome → Type 0) (Pair : Session → S
               waited_as w bs s' s'.code code s'.step k s'.idle s.idle (other s s' t) e' (sym q),
             )
             (waits w z bs (idle_on w bs) (ltb (suc s.idle) (wait_limit code w)))
-        go range z d (bad x) = on_range (bad x) (rw z tt) z
-        go range z d (good bs) = on_range (good bs) (rw z tt) z
+        go (range reg len slot over) z d (bad x) =
+            let op' : Op = range reg len slot over in
+            goes_to over (kept_of s op' (bad x)) (kept_of s' op' (bad x))
+            (arrives (suc k + over) (kept_of s op' (bad x)) (kept_of s' op' (bad x)) (kept s s' op' (bad x) t) (rw z at (leap_on (bad x) (rw z tt))))
+        go (range reg len slot over) z d (good bs) =
+            let op' : Op = range reg len slot over in
+            goes_by (kept_of s op' (good bs)) (kept_of s' op' (good bs))
+            (arrives (suc k) (kept_of s op' (good bs)) (kept_of s' op' (good bs)) (kept s s' op' (good bs) t) (rw z at (next_on (good bs) (rw z tt))))
 
     -- the reply's record meets both sessions
     pub replies : (f : ℕ) (bs : List ℕ) → Underway s → Underway s' → s.step ≡ k → s'.step ≡ k → s.idle ≡ s'.idle → R (step_def s (reply f bs)) (step_def s' (reply f bs))

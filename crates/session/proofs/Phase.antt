@@ -1,16 +1,15 @@
 -- The failures of a call so far: none, or a failed range read and the clearing writes after it.
 use mathlib.Core.Path.{◌≡◌, refl, sym, subst}
-use mathlib.Core.Bool.{true, ◌||◌}
+use mathlib.Core.Bool.{true}
 use mathlib.Core.List.{List, [], ◌∷◌}
 use Prim.Native.Nat.{ℕ, suc}
-use lib.Dec.{eqb}
 use Rattle.session.specs.Bus.{Transfer, Answer, transfer_of, Reply, bad, good}
 use Rattle.session.specs.Instructions.{Instruction, Context, Verdict, Op, write, read, wait, range, failure, send_of}
 use Rattle.session.specs.Steps.{slot, pass, op_of}
 use Rattle.session.specs.Calls.{program_of}
 use Rattle.session.specs.History.{Exchange, by, Standing, waiting, ended}
-use Rattle.session.specs.Claim3.{range_failure, reported, first_out, first_failed, second_out, second_failed, both_good, AfterReply, Failures}
-use Rattle.session.proofs.Facts.{clash}
+use Rattle.session.specs.Claim3.{range_read, range_failure, reported, first_out, first_failed, second_out, second_failed, both_good, AfterReply, Failures}
+use Rattle.ground.proofs.Facts.{clash}
 use Rattle.session.proofs.Laws.{clear_ops}
 
 abbrev pub IsGood : Reply → Type 0
@@ -21,28 +20,25 @@ abbrev pub AllGood : List Exchange → Type 0
 AllGood [] = Unit {0}
 AllGood (e ∷ es) = IsGood e.reply × AllGood es
 
-abbrev pub range_sent : ℕ → Transfer
-range_sent adr = transfer_of adr (0x1E ∷ []) 2
-
 abbrev pub clear_sent : ℕ → ℕ → Transfer
 clear_sent adr b = transfer_of adr (0x0B ∷ b ∷ []) 1
 
 abbrev pub clear_op : ℕ → Op
 clear_op b = op_of (Instruction.Write 0x0B b)
 
--- a call with a range read, and its end after a failed one
-pub record Ranged (code : ℕ) : Type 0 where
-  pub inside : eqb code 6 || eqb code 7 || eqb code 8 ≡ true
+-- a range read of a call, and its end after a failed one
+pub record Ranged (code : ℕ) (t : Transfer) : Type 0 where
+  pub inside : range_read code t ≡ true
   pub final : (c : Context) (e : ℕ) → c.failed ≡ suc e → (program_of code).final c ≡ failure (suc e)
 
 -- over the operations that are left and the exchanges so far
 pub data Phase (code : ℕ) (ops : List Op) : List Exchange → Type 0 where
   clean : {ex : List Exchange} → AllGood ex → Phase code ops ex
-  tidy0 : {ex : List Exchange} → Ranged code → (adr e : ℕ) → ops ≡ clear_ops → AllGood ex → Phase code ops (by (range_sent adr) (bad e) ∷ ex)
-  tidy1 : {ex : List Exchange} → Ranged code → (adr e : ℕ) (adr' : ℕ) (bs : List ℕ) → ops ≡ clear_op 0 ∷ [] → AllGood ex
-      → Phase code ops (by (clear_sent adr' 1) (good bs) ∷ by (range_sent adr) (bad e) ∷ ex)
-  tidy2 : {ex : List Exchange} → Ranged code → (adr e : ℕ) (adr' : ℕ) (bs : List ℕ) (adr'' : ℕ) (bs' : List ℕ) → ops ≡ [] → AllGood ex
-      → Phase code ops (by (clear_sent adr'' 0) (good bs') ∷ by (clear_sent adr' 1) (good bs) ∷ by (range_sent adr) (bad e) ∷ ex)
+  tidy0 : {ex : List Exchange} {u : Transfer} → Ranged code u → (e : ℕ) → ops ≡ clear_ops → AllGood ex → Phase code ops (by u (bad e) ∷ ex)
+  tidy1 : {ex : List Exchange} {u : Transfer} → Ranged code u → (e : ℕ) (adr' : ℕ) (bs : List ℕ) → ops ≡ clear_op 0 ∷ [] → AllGood ex
+      → Phase code ops (by (clear_sent adr' 1) (good bs) ∷ by u (bad e) ∷ ex)
+  tidy2 : {ex : List Exchange} {u : Transfer} → Ranged code u → (e : ℕ) (adr' : ℕ) (bs : List ℕ) (adr'' : ℕ) (bs' : List ℕ) → ops ≡ [] → AllGood ex
+      → Phase code ops (by (clear_sent adr'' 0) (good bs') ∷ by (clear_sent adr' 1) (good bs) ∷ by u (bad e) ∷ ex)
 
 reply_good : (code : ℕ) (t : Transfer) (r : Reply) (later es : List Exchange) (st : Standing) → IsGood r → AfterReply code t r later es st
 reply_good code t (bad e) later es st g = absurd g
@@ -53,29 +49,29 @@ good_any code later [] st g = tt
 good_any code later (e ∷ es) st g = (reply_good code e.sent e.reply later es st g.0, good_any code (e ∷ later) es st g.1)
 
 -- the call is cleared and ends with the range read's code
-pub phase_cleared : (code n adr e adr' : ℕ) (bs : List ℕ) (adr'' : ℕ) (bs' : List ℕ) (ex : List Exchange) → Ranged code → AllGood ex
-    → Failures code [] (by (clear_sent adr'' 0) (good bs') ∷ by (clear_sent adr' 1) (good bs) ∷ by (range_sent adr) (bad e) ∷ ex) (ended (Answer.BusError (suc e)) n)
-phase_cleared code n adr e adr' bs adr'' bs' ex r g =
+pub phase_cleared : (code n e adr' : ℕ) (bs : List ℕ) (adr'' : ℕ) (bs' : List ℕ) (ex : List Exchange) {u : Transfer} → Ranged code u → AllGood ex
+    → Failures code [] (by (clear_sent adr'' 0) (good bs') ∷ by (clear_sent adr' 1) (good bs) ∷ by u (bad e) ∷ ex) (ended (Answer.BusError (suc e)) n)
+phase_cleared code n e adr' bs adr'' bs' ex r g =
     rw r.inside (tt, (tt, (both_good (clear_sent adr' 1) bs (clear_sent adr'' 0) bs' n refl refl, good_any code _ ex _ g)))
 
 -- it waits for the operation `op`
 pub phase_waiting : (code : ℕ) (op : Op) (rest : List Op) (ex : List Exchange) (c : Context) → Phase code (op ∷ rest) ex → Failures code [] ex (waiting (send_of op c))
 phase_waiting code op rest ex c (clean g) = good_any code [] ex _ g
-phase_waiting code op rest ex c (tidy0 {ex = ex'} r adr e q g) =
+phase_waiting code op rest ex c (tidy0 {ex = ex'} {u = u} r e q g) =
     let h : op ≡ clear_op 1 = cc in rw (h, r.inside) (first_out _ refl, good_any code _ ex' _ g)
-phase_waiting code op rest ex c (tidy1 {ex = ex'} r adr e adr' bs q g) =
+phase_waiting code op rest ex c (tidy1 {ex = ex'} {u = u} r e adr' bs q g) =
     let h : op ≡ clear_op 0 = cc in rw (h, r.inside) (tt, (second_out _ bs _ refl refl, good_any code _ ex' _ g))
-phase_waiting code op rest ex c (tidy2 r adr e adr' bs adr'' bs' q g) = clash cc
+phase_waiting code op rest ex c (tidy2 r e adr' bs adr'' bs' q g) = clash cc
 
 -- that operation fails
 pub phase_failed : (code : ℕ) (op : Op) (rest : List Op) (ex : List Exchange) (c : Context) (k n : ℕ) → Phase code (op ∷ rest) ex
     → Failures code (by (send_of op c) (bad k) ∷ []) ex (ended (Answer.BusError (reported code (range_failure code ex) (suc k))) n)
 phase_failed code op rest ex c k n (clean g) = good_any code _ ex _ g
-phase_failed code op rest ex c k n (tidy0 {ex = ex'} r adr e q g) =
+phase_failed code op rest ex c k n (tidy0 {ex = ex'} {u = u} r e q g) =
     let h : op ≡ clear_op 1 = cc in rw (h, r.inside) (first_failed _ k n refl, good_any code _ ex' _ g)
-phase_failed code op rest ex c k n (tidy1 {ex = ex'} r adr e adr' bs q g) =
+phase_failed code op rest ex c k n (tidy1 {ex = ex'} {u = u} r e adr' bs q g) =
     let h : op ≡ clear_op 0 = cc in rw (h, r.inside) (tt, (second_failed _ bs _ k n refl refl, good_any code _ ex' _ g))
-phase_failed code op rest ex c k n (tidy2 r adr e adr' bs adr'' bs' q g) = clash cc
+phase_failed code op rest ex c k n (tidy2 r e adr' bs adr'' bs' q g) = clash cc
 
 -- a write that succeeds: with no failure before it, or one of the two clearing writes, after which the call goes on
 pub data AfterWrite (code : ℕ) (after : Context → Verdict) (rest : List Op) (t : Transfer) (bs : List ℕ) (ex : List Exchange) : Type 0 where
@@ -85,27 +81,27 @@ pub data AfterWrite (code : ℕ) (after : Context → Verdict) (rest : List Op) 
 pub phase_write : (code reg : ℕ) (bytes : Context → List ℕ) (len over : ℕ) (after : Context → Verdict) (rest : List Op) (ex : List Exchange) (c : Context) (bs : List ℕ)
     → Phase code (write reg bytes len over after ∷ rest) ex → AfterWrite code after rest (send_of (write reg bytes len over after) c) bs ex
 phase_write code reg bytes len over after rest ex c bs (clean g) = cleanly g
-phase_write code reg bytes len over after rest ex c bs (tidy0 {ex = ex'} r adr e q g) =
+phase_write code reg bytes len over after rest ex c bs (tidy0 {ex = ex'} {u = u} r e q g) =
     let h : write reg bytes len over after ≡ clear_op 1 = cc in
     let hr : rest ≡ clear_op 0 ∷ [] = cc in
     let hc : after ≡ pass = cc in
-    tidily hc (subst (λ o. Phase code rest (by (send_of o c) (good bs) ∷ by (range_sent adr) (bad e) ∷ ex')) (sym h) (tidy1 r adr e c.address bs hr g))
-phase_write code reg bytes len over after rest ex c bs (tidy1 {ex = ex'} r adr e adr' bs₁ q g) =
+    tidily hc (subst (λ o. Phase code rest (by (send_of o c) (good bs) ∷ by u (bad e) ∷ ex')) (sym h) (tidy1 r e c.address bs hr g))
+phase_write code reg bytes len over after rest ex c bs (tidy1 {ex = ex'} {u = u} r e adr' bs₁ q g) =
     let h : write reg bytes len over after ≡ clear_op 0 = cc in
     let hr : rest ≡ [] = cc in
     let hc : after ≡ pass = cc in
-    tidily hc (subst (λ o. Phase code rest (by (send_of o c) (good bs) ∷ by (clear_sent adr' 1) (good bs₁) ∷ by (range_sent adr) (bad e) ∷ ex')) (sym h) (tidy2 r adr e adr' bs₁ c.address bs hr g))
-phase_write code reg bytes len over after rest ex c bs (tidy2 r adr e adr' bs₁ adr'' bs' q g) = clash cc
+    tidily hc (subst (λ o. Phase code rest (by (send_of o c) (good bs) ∷ by (clear_sent adr' 1) (good bs₁) ∷ by u (bad e) ∷ ex')) (sym h) (tidy2 r e adr' bs₁ c.address bs hr g))
+phase_write code reg bytes len over after rest ex c bs (tidy2 r e adr' bs₁ adr'' bs' q g) = clash cc
 
 -- any other operation stands only where nothing has failed
 abbrev pub NoWrite : Op → Type 0
 NoWrite (write reg bytes len over after) = ⊥
-NoWrite (read reg len slot over after) = Unit {0}
+NoWrite (read reg len slot finds over after) = Unit {0}
 NoWrite (wait w) = Unit {0}
-NoWrite range = Unit {0}
+NoWrite (range reg len slot over) = Unit {0}
 
 pub phase_clean : (code : ℕ) (op : Op) (rest : List Op) (ex : List Exchange) → NoWrite op → Phase code (op ∷ rest) ex → AllGood ex
 phase_clean code op rest ex n (clean g) = g
-phase_clean code op rest ex n (tidy0 r adr e q g) = let h : op ≡ clear_op 1 = cc in absurd (rw h at n)
-phase_clean code op rest ex n (tidy1 r adr e adr' bs q g) = let h : op ≡ clear_op 0 = cc in absurd (rw h at n)
-phase_clean code op rest ex n (tidy2 r adr e adr' bs adr'' bs' q g) = clash cc
+phase_clean code op rest ex n (tidy0 r e q g) = let h : op ≡ clear_op 1 = cc in absurd (rw h at n)
+phase_clean code op rest ex n (tidy1 r e adr' bs q g) = let h : op ≡ clear_op 0 = cc in absurd (rw h at n)
+phase_clean code op rest ex n (tidy2 r e adr' bs adr'' bs' q g) = clash cc

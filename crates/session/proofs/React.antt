@@ -15,12 +15,12 @@ use Rattle.session.specs.Calls.{ops_of, program_of}
 use Rattle.session.specs.Machine.{Session, sent, context_of, kept_of, sending, giving, arrive, decide, react}
 use Rattle.session.specs.History.{Exchange, by}
 use Rattle.session.specs.Claim3.{read_of, unmet, idle_reads, range_read, range_failure, reported, floor_in}
-use Rattle.session.proofs.Facts.{cond_case, drop_next, untrue}
-use Rattle.session.proofs.Good.{Good, Between, between_next, idle_more}
+use Rattle.ground.proofs.Facts.{cond_case, drop_next, untrue}
+use Rattle.session.proofs.Good.{Good, Between, between_next, idle_more, between_skip}
 use Rattle.session.proofs.Laws.{range_law, range_at}
 use Rattle.session.proofs.Phase.{IsGood, AllGood, Ranged, Phase, clean, tidy0, good_any, phase_failed, AfterWrite, cleanly, tidily, phase_write, phase_clean}
 use Rattle.session.proofs.Own.{claim_ceiling, unmet_is, limit_is}
-use Rattle.session.proofs.Shape.{waits_on, is_range, and_false, over_of, leaps, Known, known_at, one_byte, same_on}
+use Rattle.session.proofs.Shape.{waits_on, is_range, and_false, over_of, leaps, Known, known_at, same_on}
 use Rattle.session.proofs.Floor.{floor_next, floor_leap}
 use Rattle.session.proofs.Told.{Told, told_next, told_write, told_again}
 use Rattle.session.proofs.Trace.{trace_skip, GoesOn, trace_step, trace_again, trace_late, length_kept}
@@ -29,7 +29,7 @@ use Rattle.session.proofs.Arrivals.{Match, Ahead, Mid, Fine, held_is, limit_some
 
 -- the range read is told by the bus
 range_told : (code : ℕ) (op : Op) (rest : List Op) (c : Context) → Known code op rest c → range_read code (send_of op c) ≡ is_range op
-range_told code op rest c kn = rw (one_byte 0x1E op c kn.whole) kn.ranged
+range_told code op rest c kn = kn.ranged
 
 pub known : (s : Session) (op : Op) (rest : List Op) → Good s op rest → (c : Context) → Known s.code op rest c
 known s op rest g = known_at s.code s.step op rest g.at
@@ -84,10 +84,10 @@ failed_of s op rest ex d m r = rw (range_told s.code op rest (context_of s) (kno
   where
     go : (o : Op) (r' : Reply) → kept_failure o r' s.failed ≡ cond (is_range o) (failure_in r') (range_failure s.code ex)
     go (write reg bytes len over after) r' = m.failed
-    go (read reg len slot over after) r' = m.failed
+    go (read reg len slot finds over after) r' = m.failed
     go (wait w) r' = m.failed
-    go range (bad e) = refl
-    go range (good bs) = refl
+    go (range reg len slot over) (bad e) = refl
+    go (range reg len slot over) (good bs) = refl
 
 ahead_of : (s : Session) (op : Op) (rest : List Op) (ex : List Exchange) (d : Driver) → Match s op rest ex d → (r : Reply) → GoesOn op r
     → Ahead (kept_of s op r) (suc s.step) (by (send_of op (context_of s)) r ∷ ex)
@@ -95,7 +95,7 @@ ahead_of s op rest ex d m r g =
     record {
       told = go (drop (suc s.step) (ops_of (program_of s.code))) refl;
       traced = λ t q. rw (drop_next s.step (ops_of (program_of s.code)) m.good.at) (trace_step t op rest (context_of s) r s.carried ex kn.whole g m.long (m.traced t q));
-      owned = λ q. rw (drop_next s.step (ops_of (program_of s.code)) m.good.at) (own_step op rest (context_of s) r s.carried s.own ex kn.whole g (m.owned q));
+      owned = λ q. rw (drop_next s.step (ops_of (program_of s.code)) m.good.at) (own_step op rest (context_of s) r s.carried s.found_budget ex kn.whole g (m.owned q));
       floor = rw (drop_next s.step (ops_of (program_of s.code)) m.good.at) (floor_next (floor_in s.code) (length ex) op rest m.floor);
     }
   where
@@ -108,6 +108,12 @@ ahead_of s op rest ex d m r g =
         let p : rest ≡ next ∷ more = sym (drop_next s.step (ops_of (program_of s.code)) m.good.at) ∙ e in
         told_next s.code op (context_of s) r next more ex kn.whole (rw p at kn.next) (known_at s.code (suc s.step) next more e)
 
+-- where an operation that leaves some out lands
+lands : (s : Session) (op : Op) (rest : List Op) → drop s.step (ops_of (program_of s.code)) ≡ op ∷ rest
+    → drop (suc s.step + over_of op) (ops_of (program_of s.code)) ≡ drop (over_of op) rest
+lands s op rest at =
+    sym (drop-drop (over_of op) (suc s.step) (ops_of (program_of s.code))) ∙ ap (drop (over_of op)) (drop_next s.step (ops_of (program_of s.code)) at)
+
 leap_ahead : (s : Session) (op : Op) (rest : List Op) (ex : List Exchange) (d : Driver) → Match s op rest ex d → (r : Reply) → GoesOn op r
     → Ahead (kept_of s op r) (suc s.step + over_of op) (by (send_of op (context_of s)) r ∷ ex)
 leap_ahead s op rest ex d m r g = go (leaps op) refl
@@ -116,7 +122,7 @@ leap_ahead s op rest ex d m r g = go (leaps op) refl
     kn = known s op rest m.good (context_of s)
 
     p : drop (suc s.step + over_of op) (ops_of (program_of s.code)) ≡ drop (over_of op) rest
-    p = sym (drop-drop (over_of op) (suc s.step) (ops_of (program_of s.code))) ∙ ap (drop (over_of op)) (drop_next s.step (ops_of (program_of s.code)) m.good.at)
+    p = lands s op rest m.good.at
 
     go : (t : Bool) → leaps op ≡ t → Ahead (kept_of s op r) (suc s.step + over_of op) (by (send_of op (context_of s)) r ∷ ex)
     go true a =
@@ -126,7 +132,7 @@ leap_ahead s op rest ex d m r g = go (leaps op) refl
               (trace_skip t (kept_bytes op r s.carried) (over_of op) rest (by (send_of op (context_of s)) r ∷ ex)
               (trace_late t op rest (context_of s) r s.carried ex kn.whole a (m.traced t q))
               (trace_step t op rest (context_of s) r s.carried ex kn.whole g m.long (m.traced t q)));
-          owned = λ q. rw p (own_leap op rest (context_of s) r s.carried s.own (over_of op) ex kn.whole g a (m.owned q));
+          owned = λ q. rw p (own_leap op rest (context_of s) r s.carried s.found_budget (over_of op) ex kn.whole g a (m.owned q));
           floor = rw p (floor_leap (floor_in s.code) (length ex) op rest m.floor);
         }
     go false a =
@@ -148,6 +154,24 @@ mid_of s op rest ex d m r g calm ph =
       ahead = ahead_of s op rest ex d m r g;
       long = length_kept op r s.carried ∙ m.long;
       phase = rw (drop_next s.step (ops_of (program_of s.code)) m.good.at) ph;
+      driver = m.driver;
+    }
+
+-- where it leaves some out
+leapt_of : (s : Session) (op : Op) (rest : List Op) (ex : List Exchange) (d : Driver) → Match s op rest ex d → (r : Reply) → GoesOn op r
+    → ((x : Condition) → idle_reads x s.code (by (send_of op (context_of s)) r ∷ ex) ≡ 0)
+    → Phase s.code (drop (over_of op) rest) (by (send_of op (context_of s)) r ∷ ex)
+    → Mid (kept_of s op r) (suc s.step + over_of op) (by (send_of op (context_of s)) r ∷ ex) d
+leapt_of s op rest ex d m r g calm ph =
+    let b : Between s (suc s.step + over_of op) = between_skip s (suc s.step) (over_of op) (between_next s op rest m.good) in
+    record {
+      between = record { args = b.args; marked = b.marked; bound = b.bound };
+      count = m.count;
+      failed = failed_of s op rest ex d m r;
+      calm = calm;
+      ahead = leap_ahead s op rest ex d m r g;
+      long = length_kept op r s.carried ∙ m.long;
+      phase = rw (lands s op rest m.good.at) ph;
       driver = m.driver;
     }
 
@@ -204,7 +228,7 @@ module _ (s : Session) (w : Condition) (rest : List Op) (ex : List Exchange) (d 
         long = m.long;
         traced = λ t q. trace_again t s.carried w rest (context_of s) (good bs) ex (m.traced t q);
         floor = omega (arith, m.floor);
-        owned = λ q. own_again s.own s.carried w rest (context_of s) (good bs) ex (m.owned q);
+        owned = λ q. own_again s.found_budget s.carried w rest (context_of s) (good bs) ex (m.owned q);
         phase = clean (tt, phase_clean s.code (wait w) rest ex tt m.phase);
         driver = m.driver;
       })
@@ -241,10 +265,10 @@ react_fine s (write reg bytes len over after) rest ex d m (bad e) =
     (ap (λ n. report_of (read_wins s.code) n (suc e)) m.failed ∙ report_is s.code (range_failure s.code ex) (suc e))
 react_fine s (write reg bytes len over after) rest ex d m (good bs) =
     write_fine s reg bytes len over after rest ex d bs m (phase_write s.code reg bytes len over after rest ex (context_of s) bs m.phase)
-react_fine s (read reg len slot over after) rest ex d m (bad e) =
-    fail_fine s (read reg len slot over after) rest ex d m e (suc e) refl (own_code s ex e (phase_clean s.code _ rest ex tt m.phase))
-react_fine s (read reg len slot over after) rest ex d m (good bs) =
-    let op : Op = read reg len slot over after in
+react_fine s (read reg len slot finds over after) rest ex d m (bad e) =
+    fail_fine s (read reg len slot finds over after) rest ex d m e (suc e) refl (own_code s ex e (phase_clean s.code _ rest ex tt m.phase))
+react_fine s (read reg len slot finds over after) rest ex d m (good bs) =
+    let op : Op = read reg len slot finds over after in
     let g : AllGood ex = phase_clean s.code op rest ex tt m.phase in
     decide_fine (kept_of s op (good bs)) (suc s.step) (by (send_of op (context_of s)) (good bs) ∷ ex) d
     (mid_of s op rest ex d m (good bs) tt (calm_of s op rest ex d m (good bs) (λ x. refl)) (clean (tt, g)))
@@ -257,13 +281,15 @@ react_fine s (wait w) rest ex d m (good bs) =
     (λ lt. again_fine s w rest ex d m bs h (ltb-true (suc s.idle) (wait_limit s.code w) lt))
     (λ ge. timeout_fine s w rest ex d m bs h (ltb-false (suc s.idle) (wait_limit s.code w) ge)))
     (λ h. ready_fine s w rest ex d m bs h)
-react_fine s range rest ex d m (bad e) =
-    let g : AllGood ex = phase_clean s.code range rest ex tt m.phase in
+react_fine s (range reg len slot over) rest ex d m (bad e) =
+    let op : Op = range reg len slot over in
+    let g : AllGood ex = phase_clean s.code op rest ex tt m.phase in
     let f = range_at (program_of s.code).final s.step (ops_of (program_of s.code)) (range_law s.code) m.good.at in
-    let r : Ranged s.code = record { inside = (known s range rest m.good (context_of s)).ranged; final = f.1 } in
-    arrive_fine (kept_of s range (bad e)) (suc s.step) (by (send_of range (context_of s)) (bad e) ∷ ex) d
-    (mid_of s range rest ex d m (bad e) tt (calm_of s range rest ex d m (bad e) (λ x. refl)) (tidy0 r (context_of s).address e f.0 g))
-react_fine s range rest ex d m (good bs) =
-    let g : AllGood ex = phase_clean s.code range rest ex tt m.phase in
-    arrive_fine (kept_of s range (good bs)) (suc s.step) (by (send_of range (context_of s)) (good bs) ∷ ex) d
-    (mid_of s range rest ex d m (good bs) tt (calm_of s range rest ex d m (good bs) (λ x. refl)) (clean (tt, g)))
+    let r : Ranged s.code (send_of op (context_of s)) = record { inside = (known s op rest m.good (context_of s)).ranged; final = f.1 } in
+    arrive_fine (kept_of s op (bad e)) (suc s.step + over) (by (send_of op (context_of s)) (bad e) ∷ ex) d
+    (leapt_of s op rest ex d m (bad e) tt (calm_of s op rest ex d m (bad e) (λ x. refl)) (tidy0 r e f.0 g))
+react_fine s (range reg len slot over) rest ex d m (good bs) =
+    let op : Op = range reg len slot over in
+    let g : AllGood ex = phase_clean s.code op rest ex tt m.phase in
+    arrive_fine (kept_of s op (good bs)) (suc s.step) (by (send_of op (context_of s)) (good bs) ∷ ex) d
+    (mid_of s op rest ex d m (good bs) tt (calm_of s op rest ex d m (good bs) (λ x. refl)) (clean (tt, g)))

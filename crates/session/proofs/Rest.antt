@@ -2,7 +2,7 @@
 use mathlib.Core.Path.{◌≡◌, refl, sym, ap, ◌∙◌}
 use mathlib.Core.Bool.{Bool, true, false, not, ◌&&◌, ◌||◌, cond}
 use mathlib.Core.List.{List, [], ◌∷◌}
-use Prim.Native.Nat.{ℕ, zero, suc}
+use Prim.Native.Nat.{ℕ, zero, suc, ◌+◌}
 use native.Mathlib.Omega.{arith}
 use borrow.Author.Tests.{eqb-true, ne_eqb}
 use lib.Dec.{eqb, ltb}
@@ -15,7 +15,7 @@ use Rattle.session.specs.Calls.{Program, ops_of, tuning, programs, program_of}
 use Rattle.session.specs.Machine.{Session, Outcome, sent, answered, refused, broken, context_of, kept_of, conclude, enter, arrive, decide, react, to_reply, stray}
 use Rattle.session.specs.Parts.{kept_rows, kept_at, reads_range_at, gives_budget}
 use Rattle.session.specs.AnySession.{Keeps, KeepsTheRest}
-use Rattle.session.proofs.Facts.{cond_case, both}
+use Rattle.ground.proofs.Facts.{cond_case, both}
 use Rattle.session.proofs.Table.{of_test}
 use Rattle.session.proofs.Refused.{sound_of}
 use Rattle.session.proofs.Shape.{is_range, same_bool, same_bool_lem}
@@ -23,7 +23,7 @@ use Rattle.session.proofs.Pairs.{StepTest, walk, walk_at, instruction_there, met
 
 -- a call that goes on has what the session had after the reply was kept
 abbrev Carries : Session → Outcome → Type 0
-Carries u (sent t s') = (s'.carried ≡ u.carried) × (s'.failed ≡ u.failed) × (s'.own ≡ u.own)
+Carries u (sent t s') = (s'.carried ≡ u.carried) × (s'.failed ≡ u.failed) × (s'.found_budget ≡ u.found_budget)
 Carries u (answered x n s') = Unit {0}
 Carries u (refused x s') = Unit {0}
 Carries u (broken s') = Unit {0}
@@ -50,17 +50,17 @@ decides (test false v w) p over k u = decides w p over k u
 reacts : (op : Op) (p : Program) (s : Session) (r : Reply) → Carries (kept_of s op r) (react op p s r)
 reacts (write reg bytes len over after) p s (bad e) = tt
 reacts (write reg bytes len over after) p s (good bs) = decides (after (context_of s)) p over (suc s.step) s
-reacts (read reg len slot over after) p s (bad e) = tt
-reacts (read reg len slot over after) p s (good bs) =
-    let u : Session = kept_of s (read reg len slot over after) (good bs) in
+reacts (read reg len slot finds over after) p s (bad e) = tt
+reacts (read reg len slot finds over after) p s (good bs) =
+    let u : Session = kept_of s (read reg len slot finds over after) (good bs) in
     decides (after (context_of u)) p over (suc s.step) u
 reacts (wait w) p s (bad e) = tt
 reacts (wait w) p s (good bs) =
     cond_case (Carries s) (idle_on w bs)
     (λ h. cond_case (Carries s) (ltb (suc s.idle) (wait_limit s.code w)) (λ h'. (refl, refl, refl)) (λ h'. tt))
     (λ h. arrives p (suc s.step) s)
-reacts range p s (bad e) = arrives p (suc s.step) (kept_of s range (bad e))
-reacts range p s (good bs) = arrives p (suc s.step) (kept_of s range (good bs))
+reacts (range reg len slot over) p s (bad e) = arrives p (suc s.step + over) (kept_of s (range reg len slot over) (bad e))
+reacts (range reg len slot over) p s (good bs) = arrives p (suc s.step) (kept_of s (range reg len slot over) (good bs))
 
 -- the row of a step: slot and count, both 0 where nothing is kept
 abbrev row_at : ℕ → ℕ → List (ℕ × ℕ × ℕ × ℕ) → ℕ × ℕ
@@ -79,21 +79,21 @@ row_is code k (r ∷ rs) l bs = go (eqb r.0 code && eqb r.1 k) (row_is code k rs
 
 abbrev slot_of : Op → ℕ
 slot_of (write reg bytes len over after) = 0
-slot_of (read reg len slot over after) = slot
+slot_of (read reg len slot finds over after) = slot
 slot_of (wait w) = 0
-slot_of range = 4
+slot_of (range reg len slot over) = slot
 
 abbrev count_of : Op → ℕ
 count_of (write reg bytes len over after) = 0
-count_of (read reg len slot over after) = len
+count_of (read reg len slot finds over after) = len
 count_of (wait w) = 0
-count_of range = 2
+count_of (range reg len slot over) = len
 
-abbrev fills_budget : Op → Bool
-fills_budget (write reg bytes len over after) = false
-fills_budget (read reg len slot over after) = eqb slot 15
-fills_budget (wait w) = false
-fills_budget range = false
+abbrev finder : Op → Bool
+finder (write reg bytes len over after) = false
+finder (read reg len slot finds over after) = finds
+finder (wait w) = false
+finder (range reg len slot over) = false
 
 abbrev kept_ok : ℕ → StepTest
 kept_ok code k i is =
@@ -101,7 +101,7 @@ kept_ok code k i is =
     eqb row.0 (slot_of (op_of i))
     && (eqb row.1 (count_of (op_of i))
     && (same_bool (reads_range_at code k) (is_range (op_of i))
-    && (not (eqb code 1) || (not (fills_budget (op_of i)) || gives_budget code k))))
+    && (not (eqb code 1) || (not (finder (op_of i)) || gives_budget code k))))
 
 all_ok : (code : ℕ) → walk (kept_ok code) 0 (program_of code).steps ≡ true
 unfolding programs tuning kept_rows
@@ -109,29 +109,29 @@ all_ok = of_test (λ k p. walk (kept_ok k) 0 p.steps) (λ k. refl) refl
 
 bytes_kept : (op : Op) (l bs : List ℕ) → kept_bytes op (good bs) l ≡ sets l (slot_of op) (bytes_from 0 (count_of op) bs)
 bytes_kept (write reg bytes len over after) l bs = refl
-bytes_kept (read reg len slot over after) l bs = refl
+bytes_kept (read reg len slot finds over after) l bs = refl
 bytes_kept (wait w) l bs = refl
-bytes_kept range l bs = refl
+bytes_kept (range reg len slot over) l bs = refl
 
 nothing_kept : (op : Op) (l : List ℕ) (e : ℕ) → kept_bytes op (bad e) l ≡ l
 nothing_kept (write reg bytes len over after) l e = refl
-nothing_kept (read reg len slot over after) l e = refl
+nothing_kept (read reg len slot finds over after) l e = refl
 nothing_kept (wait w) l e = refl
-nothing_kept range l e = refl
+nothing_kept (range reg len slot over) l e = refl
 
 failure_kept : (op : Op) (f : ℕ) (bs : List ℕ) (x : ℕ) → kept_failure op (to_reply f bs) x ≡ cond (is_range op) f x
 failure_kept (write reg bytes len over after) f bs x = refl
-failure_kept (read reg len slot over after) f bs x = refl
+failure_kept (read reg len slot finds over after) f bs x = refl
 failure_kept (wait w) f bs x = refl
-failure_kept range zero bs x = refl
-failure_kept range (suc e) bs x = refl
+failure_kept (range reg len slot over) zero bs x = refl
+failure_kept (range reg len slot over) (suc e) bs x = refl
 
-budget_left : (op : Op) (r : Reply) (l : List ℕ) (x : ℕ) → fills_budget op ≡ false → kept_budget op r l x ≡ x
+budget_left : (op : Op) (r : Reply) (l : List ℕ) (x : ℕ) → finder op ≡ false → kept_budget op r l x ≡ x
 budget_left (write reg bytes len over after) r l x h = refl
-budget_left (read reg len slot over after) (bad e) l x h = refl
-budget_left (read reg len slot over after) (good bs) l x h = rw h refl
+budget_left (read reg len slot finds over after) (bad e) l x h = refl
+budget_left (read reg len slot finds over after) (good bs) l x h = rw h refl
 budget_left (wait w) r l x h = refl
-budget_left range r l x h = refl
+budget_left (range reg len slot over) r l x h = refl
 
 pub keeps_the_rest : (s : Session) (f : ℕ) (bs : List ℕ) → KeepsTheRest s f bs
 keeps_the_rest s f bs u =
@@ -148,7 +148,7 @@ keeps_the_rest s f bs u =
     rw (met_at s s.code s.step i is f bs refl refl u at)
     (cond_case (Keeps s f bs) (stray (send_of (op_of i) (context_of s)) f bs) (λ e. tt)
     (λ e. ends (op_of i) (react (op_of i) (program_of s.code) s (to_reply f bs)) carried failed
-    (λ one off. budget_left (op_of i) (to_reply f bs) s.carried s.own (unfilled (op_of i) s.code s.step one off t₃.1))
+    (λ one off. budget_left (op_of i) (to_reply f bs) s.carried s.found_budget (unfilled (op_of i) s.code s.step one off t₃.1))
     (reacts (op_of i) (program_of s.code) s (to_reply f bs)))))
   where
     by_reply : (op : Op) (g : ℕ) → (row_at s.code s.step kept_rows).0 ≡ slot_of op → (row_at s.code s.step kept_rows).1 ≡ count_of op
@@ -156,8 +156,8 @@ keeps_the_rest s f bs u =
     by_reply op zero a b = bytes_kept op s.carried bs ∙ rw (← a, ← b) refl ∙ sym (row_is s.code s.step kept_rows s.carried bs)
     by_reply op (suc e) a b = nothing_kept op s.carried e ∙ rw (ne_eqb (suc e) 0 (λ z. omega (arith, z))) refl
 
-    unfilled : (op : Op) (code k : ℕ) → code ≡ 1 → gives_budget code k ≡ false → not (eqb code 1) || (not (fills_budget op) || gives_budget code k) ≡ true → fills_budget op ≡ false
-    unfilled op code k one off h = go (fills_budget op) (rw (one, rw one at off) at h)
+    unfilled : (op : Op) (code k : ℕ) → code ≡ 1 → gives_budget code k ≡ false → not (eqb code 1) || (not (finder op) || gives_budget code k) ≡ true → finder op ≡ false
+    unfilled op code k one off h = go (finder op) (rw (one, rw one at off) at h)
       where
         go : (b : Bool) → not b || false ≡ true → b ≡ false
         go true h = sym h
@@ -166,7 +166,7 @@ keeps_the_rest s f bs u =
     ends : (op : Op) (o : Outcome)
         → kept_bytes op (to_reply f bs) s.carried ≡ cond (eqb f 0) (kept_at s.code s.step kept_rows s.carried bs) s.carried
         → kept_failure op (to_reply f bs) s.failed ≡ cond (reads_range_at s.code s.step) f s.failed
-        → (s.code ≡ 1 → gives_budget s.code s.step ≡ false → kept_budget op (to_reply f bs) s.carried s.own ≡ s.own)
+        → (s.code ≡ 1 → gives_budget s.code s.step ≡ false → kept_budget op (to_reply f bs) s.carried s.found_budget ≡ s.found_budget)
         → Carries (kept_of s op (to_reply f bs)) o → Keeps s f bs o
     ends op (sent t s') c g b x = (x.0 ∙ c, x.1 ∙ g, λ one off. x.2 ∙ b one off)
     ends op (answered a n s') c g b x = tt

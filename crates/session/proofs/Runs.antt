@@ -7,10 +7,10 @@ use borrow.Author.Tests.{eqb-true, eqb-false}
 use lib.ListN.{length}
 use Rattle.session.specs.Bus.{Answer}
 use Rattle.session.specs.Machine.{Session, Outcome, sent, answered, refused, broken, ill_formed}
-use Rattle.session.specs.Records.{Record, records_of, is_whole, step_def}
-use Rattle.session.specs.History.{Entry, counts_of, Run, stopped, taking, run_from, run_records, run_def, got_of, session_of, session_after, Genuine, in_order}
+use Rattle.session.specs.Records.{Record, records_of, is_whole}
+use Rattle.session.specs.History.{step_def, Entry, Run, stopped, completed, taking, run_from, run_records, run_def, got_of, session_of, session_after, Genuine, in_order}
 use Rattle.session.specs.Claim1.{RunEnds, spare_bytes, ill_formed_given, ill_formed_met, all_run}
-use Rattle.session.proofs.Facts.{cond_case}
+use Rattle.ground.proofs.Facts.{cond_case}
 use Rattle.session.proofs.Ill.{IllOf, ill_is}
 
 -- one record more
@@ -25,11 +25,11 @@ data Over (given : Session) (all : List Record) : Run → Type 0 where
   met : (h : List Entry) (r : Record) (rest : List Record) → in_order h (r ∷ rest) ≡ all → Genuine given h → ill_formed (session_after given h) ≡ true
       → Over given all (stopped Answer.IllFormedSession given)
   through : (h : List Entry) → in_order h [] ≡ all → Genuine given h
-      → Over given all (record { answer = Answer.Done 0; session = session_after given h; counts = counts_of h; history = h })
+      → Over given all (completed (session_after given h) h)
 
 over : (given : Session) (rs : List Record) (s : Session) (h : List Entry) → s ≡ session_after given h → Genuine given h → Over given (in_order h rs) (run_from given rs s h)
 unfolding run_from
-over given [] s h here g = subst (λ z. Over given (in_order h []) (record { answer = Answer.Done 0; session = z; counts = counts_of h; history = h })) (sym here) (through h refl g)
+over given [] s h here g = subst (λ z. Over given (in_order h []) (completed z h)) (sym here) (through h refl g)
 over given (r ∷ rs) s h here g = go (step_def s r) refl (ill_is s r) (over given rs)
   where
     next : (o : Outcome) → step_def s r ≡ o → ill_formed s ≡ false

@@ -4,6 +4,7 @@ use mathlib.Core.Bool.{Bool, true, false, not}
 use mathlib.Core.List.{List, [], ◌∷◌, map}
 use Prim.Native.Nat.{ℕ}
 use lib.Dec.{eqb, ltb}
+use lib.ListN.{length}
 use Rattle.spad.specs.Map.{bits_of, byte_of, selected}
 use Rattle.spad.specs.Masks.{each_bit, or_byte}
 use Rattle.spad.proofs.Loop.{loop_selects}
@@ -15,7 +16,7 @@ use Rattle.session.specs.Machine.{zeros}
 use Rattle.session.specs.Script.{Script}
 use Rattle.session.specs.RustFn.{Fn, ◌>>◌, Ok, write_byte}
 use Rattle.session.specs.RustClocks.{limit_contained}
-use Rattle.session.specs.RustBringUp.{enable_ref_spads, load_tuning_settings, calls, rust}
+use Rattle.session.specs.RustBringUp.{as_u8, as_u16, enable_ref_spads, load_tuning_settings, calls, rust}
 use Rattle.session.specs.AnySession.{decided, resume}
 use Rattle.session.proofs.Once.{once_of}
 use Rattle.session.proofs.Formulas.{period_is}
@@ -24,11 +25,11 @@ use Rattle.session.proofs.RateLimit.{accepted_is, refused_is, quarter_in, quarte
 use Rattle.session.proofs.BudgetCalls.{get_is, set_is}
 
 abbrev pub fresh : ℕ → Driver → ℕ → ℕ → ℕ → Context
-fresh code d adr a b = record { code = code; driver = d; address = adr; a = a; b = b; failed = 0; own = 0; carried = zeros }
+fresh code d adr a b = record { code = code; driver = d; address = adr; a = a; b = b; failed = 0; found_budget = 0; carried = zeros }
 
 -- a call from its start, each test made once
 abbrev pub script : ℕ → Context → Script
-script code c = decided ((program_of code).entry c) 0 c (λ n. resume (program_of code).final n (map once_of (program_of code).steps) c)
+script code c = decided ((program_of code).entry c) (length (program_of code).steps) c (λ n. resume (program_of code).final n (map once_of (program_of code).steps) c)
 
 pub spads_are : enable_ref_spads
     ≡ (λ count aperture bytes. selected (byte 0 bytes ∷ byte 1 bytes ∷ byte 2 bytes ∷ byte 3 bytes ∷ byte 4 bytes ∷ byte 5 bytes ∷ []) count (not (eqb aperture 0)))
@@ -47,13 +48,13 @@ unfolding load_tuning_settings tuning
 tuning_is = refl
 
 -- the tuning list is put in last, so that nothing else is looked for in it
-bring_up_is : (d : Driver) (a b : ℕ) (x : Script) → x ≡ script 1 (fresh 1 absent a a b) → x ≡ rust d 1 a b
+bring_up_is : (d : Driver) (a b : ℕ) (x : Script) → x ≡ script 1 (fresh 1 absent (as_u8 a) a b) → x ≡ rust d 1 a b
 unfolding program_of programs rust calls idle_on tuning entries_of less_place or_byte each_bit bits_of byte_of
 bring_up_is d a b x e =
     rw (or_is, and_is, no_interrupt_is, spad_count_is, aperture_is) (rw (spads_are, quarter_in, quarter_word, get_is, set_is) (rw tuning_is e))
 
-pub same_1 : (d : Driver) (a b : ℕ) → script 1 (fresh 1 absent a a b) ≡ rust d 1 a b
-same_1 d a b = bring_up_is d a b (script 1 (fresh 1 absent a a b)) refl
+pub same_1 : (d : Driver) (a b : ℕ) → script 1 (fresh 1 absent (as_u8 a) a b) ≡ rust d 1 a b
+same_1 d a b = bring_up_is d a b (script 1 (fresh 1 absent (as_u8 a) a b)) refl
 
 pub same_2 : (d : Driver) (a b : ℕ) → script 2 (fresh 2 d d.address a b) ≡ rust d 2 a b
 unfolding program_of programs rust calls
@@ -93,9 +94,9 @@ same_9 d a b = rw set_is
 
 pub same_10 : (d : Driver) (a b : ℕ) → script 10 (fresh 10 d d.address a b) ≡ rust d 10 a b
 unfolding program_of programs rust calls
-same_10 d a b = go (ltb b a) (ltb 8190 a) (ltb 8190 b) refl refl refl
+same_10 d a b = go (ltb b (as_u16 a)) (ltb 8190 (as_u16 a)) (ltb 8190 b) refl refl refl
   where
-    go : (t u v : Bool) → ltb b a ≡ t → ltb 8190 a ≡ u → ltb 8190 b ≡ v → script 10 (fresh 10 d d.address a b) ≡ rust d 10 a b
+    go : (t u v : Bool) → ltb b (as_u16 a) ≡ t → ltb 8190 (as_u16 a) ≡ u → ltb 8190 b ≡ v → script 10 (fresh 10 d d.address a b) ≡ rust d 10 a b
     go true u v e f g = rw (raw_is, e)
     go false true v e f g = rw (raw_is, e, f)
     go false false true e f g = rw (raw_is, e, f, g)
@@ -118,9 +119,11 @@ unfolding program_of programs rust calls
 same_14 d a b = go (limit_contained a) refl
   where
     go : (t : Bool) → limit_contained a ≡ t → script 14 (fresh 14 d d.address a b) ≡ rust d 14 a b
-    go true e = rw (accepted_is a e, e) (rw (accepted_is a e))
+    go true e = rw (accepted_is a e, e) refl
     go false e = rw (refused_is a e, e)
 
 pub same_15 : (d : Driver) (a b : ℕ) → script 15 (fresh 15 d d.address a b) ≡ rust d 15 a b
 unfolding program_of programs rust calls entries_of less_place
 same_15 d a b = rw get_is
+
+pub ruleset each_call = (same_1, same_2, same_3, same_4, same_5, same_6, same_7, same_8, same_9, same_10, same_11, same_12, same_13, same_14, same_15)

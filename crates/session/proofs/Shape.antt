@@ -1,53 +1,53 @@
 -- What the table of calls says of each instruction: which transfers write one byte, and which of those are reads of a wait or the range read.
 use mathlib.Core.Path.{◌≡◌, refl, sym, ap}
-use mathlib.Core.Bool.{Bool, true, false, not, ◌||◌, ◌&&◌, cond}
+use mathlib.Core.Bool.{Bool, true, false, not, ◌&&◌, cond}
 use mathlib.Core.List.{List, [], ◌∷◌}
 use Prim.Native.Nat.{ℕ, zero, suc}
 use lib.Dec.{eqb}
 use lib.ListN.{drop}
-use Rattle.session.specs.Bus.{transfer_of, Condition, detector_ready, status_ready, started, wait_register}
+use Rattle.session.specs.Bus.{transfer_of, Condition, wait_register}
 use Rattle.session.specs.Instructions.{Context, Op, write, read, wait, range, send_of}
 use Rattle.session.specs.Steps.{slot}
 use Rattle.session.specs.Calls.{ops_of, tuning, programs, program_of}
-use Rattle.session.specs.Claim3.{wrote, asks}
-use Rattle.session.proofs.Facts.{both}
+use Rattle.session.specs.Claim3.{wrote, asks, awaits_status, awaits_start, range_read}
+use Rattle.ground.proofs.Facts.{both}
 use Rattle.session.proofs.Table.{of_test}
 
 abbrev pub same_on : Condition → Condition → Bool
-same_on detector_ready detector_ready = true
-same_on detector_ready status_ready = false
-same_on detector_ready started = false
-same_on status_ready detector_ready = false
-same_on status_ready status_ready = true
-same_on status_ready started = false
-same_on started detector_ready = false
-same_on started status_ready = false
-same_on started started = true
+same_on Condition.DetectorReady Condition.DetectorReady = true
+same_on Condition.DetectorReady Condition.StatusReady = false
+same_on Condition.DetectorReady Condition.Started = false
+same_on Condition.StatusReady Condition.DetectorReady = false
+same_on Condition.StatusReady Condition.StatusReady = true
+same_on Condition.StatusReady Condition.Started = false
+same_on Condition.Started Condition.DetectorReady = false
+same_on Condition.Started Condition.StatusReady = false
+same_on Condition.Started Condition.Started = true
 
 -- an operation whose transfer writes the register alone, and one that reads one byte so
 abbrev pub asks_op : ℕ → Op → Bool
 asks_op reg (write r bytes len over after) = false
-asks_op reg (read r len slot over after) = eqb r reg
+asks_op reg (read r len slot finds over after) = eqb r reg
 asks_op reg (wait w) = eqb (wait_register w) reg
-asks_op reg range = eqb 0x1E reg
+asks_op reg (range r len slot over) = eqb r reg
 
 abbrev pub asks_one : ℕ → Op → Bool
 asks_one reg (write r bytes len over after) = false
-asks_one reg (read r len slot over after) = eqb r reg && eqb len 1
+asks_one reg (read r len slot finds over after) = eqb r reg && eqb len 1
 asks_one reg (wait w) = eqb (wait_register w) reg && true
-asks_one reg range = eqb 0x1E reg && false
+asks_one reg (range r len slot over) = eqb r reg && eqb len 1
 
 abbrev pub waits_on : Condition → Op → Bool
 waits_on x (write reg bytes len over after) = false
-waits_on x (read reg len slot over after) = false
+waits_on x (read reg len slot finds over after) = false
 waits_on x (wait w) = same_on x w
-waits_on x range = false
+waits_on x (range reg len slot over) = false
 
 abbrev pub is_range : Op → Bool
 is_range (write reg bytes len over after) = false
-is_range (read reg len slot over after) = false
+is_range (read reg len slot finds over after) = false
 is_range (wait w) = false
-is_range range = true
+is_range (range reg len slot over) = true
 
 abbrev pub same_bool : Bool → Bool → Bool
 same_bool true b = b
@@ -69,26 +69,26 @@ filled (b ∷ bs) = true
 
 abbrev pub full : Op → Context → Bool
 full (write reg bytes len over after) c = filled (bytes c)
-full (read reg len slot over after) c = true
+full (read reg len slot finds over after) c = true
 full (wait w) c = true
-full range c = true
+full (range reg len slot over) c = true
 
--- call 6's writes yield, the others' do not; the limits of the waits
+-- the waits and the range reads of a call are those of the claim
 abbrev pub status_as : ℕ → Op → Bool
-status_as code op = same_bool (asks_one 0x13 op && (eqb code 1 || eqb code 7 || eqb code 8)) (waits_on status_ready op)
+status_as code op = same_bool (asks_one 0x13 op && awaits_status code) (waits_on Condition.StatusReady op)
 
 abbrev pub start_as : ℕ → Op → Bool
-start_as code op = same_bool (asks_one 0x00 op && eqb code 8) (waits_on started op)
+start_as code op = same_bool (asks_one 0x00 op && awaits_start code) (waits_on Condition.Started op)
 
-abbrev pub range_as : ℕ → Op → Bool
-range_as code op = same_bool (asks_op 0x1E op && (eqb code 6 || eqb code 7 || eqb code 8)) (is_range op)
+abbrev pub range_as : ℕ → Op → Context → Bool
+range_as code op c = same_bool (range_read code (send_of op c)) (is_range op)
 
 -- an operation that asks for 0x83 in call 1 is the detector wait exactly if the one before it writes 83 00
 abbrev pub edge : ℕ → Op → Context → Op → Bool
 edge code prev c next =
     cond (asks_one 0x83 next && eqb code 1)
-    (not (asks_one 0x83 prev) && same_bool (wrote (0x83 ∷ 0x00 ∷ []) (send_of prev c)) (waits_on detector_ready next))
-    (not (waits_on detector_ready next))
+    (not (asks_one 0x83 prev) && same_bool (wrote (0x83 ∷ 0x00 ∷ []) (send_of prev c)) (waits_on Condition.DetectorReady next))
+    (not (waits_on Condition.DetectorReady next))
 
 abbrev pub leads : ℕ → Op → Context → List Op → Bool
 leads code op c [] = true
@@ -98,16 +98,16 @@ leads code op c (next ∷ rest) = edge code op c next
 abbrev pub is_write : List Op → Bool
 is_write [] = true
 is_write (write reg bytes len over after ∷ ops) = true
-is_write (read reg len slot over after ∷ ops) = false
+is_write (read reg len slot finds over after ∷ ops) = false
 is_write (wait w ∷ ops) = false
-is_write (range ∷ ops) = false
+is_write (range reg len slot over ∷ ops) = false
 
 -- the instructions that a leap leaves out
 abbrev pub over_of : Op → ℕ
 over_of (write reg bytes len over after) = over
-over_of (read reg len slot over after) = over
+over_of (read reg len slot finds over after) = over
 over_of (wait w) = 0
-over_of range = 0
+over_of (range reg len slot over) = over
 
 abbrev pub leaps : Op → Bool
 leaps op = not (eqb (over_of op) 0)
@@ -116,7 +116,7 @@ abbrev pub lands_ok : Op → List Op → Bool
 lands_ok op ops = cond (leaps op) (is_write (drop (over_of op) ops)) true
 
 abbrev pub tells : ℕ → Op → Context → Bool
-tells code op c = status_as code op && (start_as code op && (range_as code op && full op c))
+tells code op c = status_as code op && (start_as code op && (range_as code op c && full op c))
 
 abbrev pub steady : ℕ → List Op → Context → Bool
 steady code [] c = true
@@ -129,7 +129,7 @@ steady_law code c = of_test (λ k p. steady k (ops_of p) c) (λ k. refl) refl co
 -- a call's first instruction is no detector wait
 abbrev pub first_ok : List Op → Bool
 first_ok [] = true
-first_ok (op ∷ ops) = not (waits_on detector_ready op)
+first_ok (op ∷ ops) = not (waits_on Condition.DetectorReady op)
 
 pub opens_law : (code : ℕ) → first_ok (ops_of (program_of code)) ≡ true
 unfolding programs
@@ -142,9 +142,9 @@ steady_drop code (suc k) (op ∷ l) c h = steady_drop code k l c (both (tells co
 
 -- what holds of an operation at a position of its call
 pub record Known (code : ℕ) (op : Op) (rest : List Op) (c : Context) : Type 0 where
-  pub status : asks_one 0x13 op && (eqb code 1 || eqb code 7 || eqb code 8) ≡ waits_on status_ready op
-  pub start : asks_one 0x00 op && eqb code 8 ≡ waits_on started op
-  pub ranged : asks_op 0x1E op && (eqb code 6 || eqb code 7 || eqb code 8) ≡ is_range op
+  pub status : asks_one 0x13 op && awaits_status code ≡ waits_on Condition.StatusReady op
+  pub start : asks_one 0x00 op && awaits_start code ≡ waits_on Condition.Started op
+  pub ranged : range_read code (send_of op c) ≡ is_range op
   pub whole : full op c ≡ true
   pub next : leads code op c rest ≡ true
   pub landing : lands_ok op rest ≡ true
@@ -155,9 +155,9 @@ known_at code k op rest e c =
     let h₁ = (both (tells code op c && (leads code op c rest && lands_ok op rest)) (steady code rest c) h).0 in
     let h₂ = both (tells code op c) (leads code op c rest && lands_ok op rest) h₁ in
     let h₃ = both (leads code op c rest) (lands_ok op rest) h₂.1 in
-    let t₁ = both (status_as code op) (start_as code op && (range_as code op && full op c)) h₂.0 in
-    let t₂ = both (start_as code op) (range_as code op && full op c) t₁.1 in
-    let t₃ = both (range_as code op) (full op c) t₂.1 in
+    let t₁ = both (status_as code op) (start_as code op && (range_as code op c && full op c)) h₂.0 in
+    let t₂ = both (start_as code op) (range_as code op c && full op c) t₁.1 in
+    let t₃ = both (range_as code op c) (full op c) t₂.1 in
     record {
       status = same_bool_lem _ _ t₁.0;
       start = same_bool_lem _ _ t₂.0;
@@ -174,12 +174,12 @@ two_bytes r reg adr n (b ∷ bs) h = refl
 
 pub one_byte : (reg : ℕ) (op : Op) (c : Context) → full op c ≡ true → wrote (reg ∷ []) (send_of op c) ≡ asks_op reg op
 one_byte reg (write r bytes len over after) c h = two_bytes r reg c.address len (bytes c) h
-one_byte reg (read r len slot over after) c h = refl
+one_byte reg (read r len slot finds over after) c h = refl
 one_byte reg (wait w) c h = refl
-one_byte reg range c h = refl
+one_byte reg (range r len slot over) c h = refl
 
 pub asks_is : (reg : ℕ) (op : Op) (c : Context) → full op c ≡ true → asks reg (send_of op c) ≡ asks_one reg op
 asks_is reg (write r bytes len over after) c h = ap (λ t. t && eqb len 1) (two_bytes r reg c.address len (bytes c) h)
-asks_is reg (read r len slot over after) c h = refl
+asks_is reg (read r len slot finds over after) c h = refl
 asks_is reg (wait w) c h = refl
-asks_is reg range c h = refl
+asks_is reg (range r len slot over) c h = refl

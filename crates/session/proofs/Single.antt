@@ -5,15 +5,16 @@ use mathlib.Core.List.{List, [], ◌∷◌}
 use Prim.Native.Nat.{ℕ, suc, ◌+◌, ◌≤◌}
 use native.Mathlib.Bridge.{le_by_compare, IsLe}
 use lib.Dec.{ltb}
-use lib.ListN.{drop}
+use lib.ListN.{drop, length}
 use Rattle.session.specs.Bus.{Answer, Reply, bad, good, wait_limit, idle_on, number_of}
 use Rattle.session.specs.Instructions.{Stop, declines, wrong_device, wrong_address, wrong_argument, unready, panics, stop_answer, Verdict, onward, leap, stop, test, Op, write, read, wait, range, Final, success, failure, send_of, read_wins, report_of}
 use Rattle.session.specs.Steps.{slot}
 use Rattle.session.specs.Calls.{ops_of, program_of, arguments_ok}
 use Rattle.session.specs.Machine.{Session, context_of, kept_of, sending, giving, conclude, enter, arrive, decide, react, to_reply, stray, on_ops, first_transfer_out, waits_now, ill_formed, reply_def, begun, not_up, begin_def, other_def}
-use Rattle.session.specs.Records.{Record, call, reply, other, step_def}
+use Rattle.session.specs.Records.{Record, call, reply, other}
+use Rattle.session.specs.History.{step_def}
 use Rattle.session.specs.Claim1.{Single, one_transfer, one_answer, one_refusal, ill_formed_session}
-use Rattle.session.proofs.Facts.{cond_case}
+use Rattle.ground.proofs.Facts.{cond_case}
 use Rattle.session.proofs.Sized.{sent_to, on_the_bus}
 
 -- the answers that end a call
@@ -57,9 +58,9 @@ module _ (s : Session) where
   unfolding IsLe
   reacts (write reg bytes len over after) rest t (bad e) at = fails (report_of (read_wins t.code) t.failed (suc e)) t
   reacts (write reg bytes len over after) rest t (good bs) at = decides (after (context_of t)) over (suc t.step) t
-  reacts (read reg len slot over after) rest t (bad e) at = fails (suc e) t
-  reacts (read reg len slot over after) rest t (good bs) at =
-      decides (after (context_of (kept_of t (read reg len slot over after) (good bs)))) over (suc t.step) (kept_of t (read reg len slot over after) (good bs))
+  reacts (read reg len slot finds over after) rest t (bad e) at = fails (suc e) t
+  reacts (read reg len slot finds over after) rest t (good bs) at =
+      decides (after (context_of (kept_of t (read reg len slot finds over after) (good bs)))) over (suc t.step) (kept_of t (read reg len slot finds over after) (good bs))
   reacts (wait w) rest t (bad e) at = fails (suc e) t
   reacts (wait w) rest t (good bs) at =
       cond_case (Single s) (idle_on w bs)
@@ -67,8 +68,8 @@ module _ (s : Session) where
       (λ h. one_transfer _ (sending t.step (suc t.idle) t) (on_the_bus t.code t.step (wait w) rest (context_of t) at) refl (ap (λ l. first_transfer_out l (context_of t)) (sym at)))
       (λ h. gives Answer.Timeout t (le_by_compare _ _ tt)))
       (λ e. arrives (suc t.step) t)
-  reacts range rest t (bad e) at = arrives (suc t.step) (kept_of t range (bad e))
-  reacts range rest t (good bs) at = arrives (suc t.step) (kept_of t range (good bs))
+  reacts (range reg len slot over) rest t (bad e) at = arrives (suc t.step + over) (kept_of t (range reg len slot over) (bad e))
+  reacts (range reg len slot over) rest t (good bs) at = arrives (suc t.step) (kept_of t (range reg len slot over) (good bs))
 
   pub single : (r : Record) → Single s (step_def s r)
   unfolding step_def begin_def reply_def other_def IsLe
@@ -77,7 +78,7 @@ module _ (s : Session) where
       (λ e. cond_case (Single s) (not (arguments_ok code a b)) (λ e₁. one_refusal Answer.IllFormedRecord (le_by_compare _ _ tt) (le_by_compare _ _ tt))
       (λ e₁. cond_case (Single s) (waits_now s) (λ e₂. one_refusal Answer.CallWaits (le_by_compare _ _ tt) (le_by_compare _ _ tt))
       (λ e₂. cond_case (Single s) (not_up code s.driver.up) (λ e₃. one_refusal Answer.NotUp (le_by_compare _ _ tt) (le_by_compare _ _ tt))
-      (λ e₃. decides ((program_of code).entry (context_of (begun s code a b))) 0 0 (begun s code a b)))))
+      (λ e₃. decides ((program_of code).entry (context_of (begun s code a b))) (length (program_of code).steps) 0 (begun s code a b)))))
   single (reply f bs) =
       cond_case (Single s) (ill_formed s) (λ e. ill_formed_session)
       (λ e. cond_case (Single s) (not (waits_now s)) (λ e₁. one_refusal Answer.NoCallWaits (le_by_compare _ _ tt) (le_by_compare _ _ tt))

@@ -13,14 +13,14 @@ use Rattle.session.specs.Instructions.{Context, Op, write, read, wait, range, se
 use Rattle.session.specs.Steps.{slot}
 use Rattle.session.specs.Calls.{ops_of, tuning, programs, program_of}
 use Rattle.session.specs.Claim1.{is_length, OnTheBus, Says}
-use Rattle.session.proofs.Facts.{both, clash}
+use Rattle.ground.proofs.Facts.{both, clash}
 use Rattle.session.proofs.Table.{of_test}
 
 abbrev sized : Op → Context → Bool
 sized (write reg bytes len over after) c = leb (length (bytes c)) 6 && is_length len
-sized (read reg len slot over after) c = is_length len
+sized (read reg len slot finds over after) c = is_length len
 sized (wait w) c = true
-sized range c = true
+sized (range reg len slot over) c = is_length len
 
 abbrev all_sized : List Op → Context → Bool
 all_sized [] c = true
@@ -62,9 +62,9 @@ transfer_says adr n bs h = record { to = refl; bytes_written = bytes_back 7 bs h
 -- it goes to the address that its context names
 pub sent_to : (op : Op) (c : Context) → (send_of op c).address ≡ c.address
 sent_to (write reg bytes len over after) c = refl
-sent_to (read reg len slot over after) c = refl
+sent_to (read reg len slot finds over after) c = refl
 sent_to (wait w) c = refl
-sent_to range c = refl
+sent_to (range reg len slot over) c = refl
 
 pub on_the_bus : (code k : ℕ) (op : Op) (rest : List Op) (c : Context) → drop k (ops_of (program_of code)) ≡ op ∷ rest → OnTheBus (send_of op c)
 on_the_bus code k op rest c e = go op (sized_at k (ops_of (program_of code)) c (sized_law code c) e)
@@ -73,6 +73,6 @@ on_the_bus code k op rest c e = go op (sized_at k (ops_of (program_of code)) c (
     go (write reg bytes len over after) h =
         let q = both (leb (length (bytes c)) 6) (is_length len) h in
         made c.address reg len (bytes c) (leb-true (length (bytes c)) 6 q.0) q.1
-    go (read reg len slot over after) h = made c.address reg len [] (omega arith) h
+    go (read reg len slot finds over after) h = made c.address reg len [] (omega arith) h
     go (wait w) h = made c.address (wait_register w) 1 [] (omega arith) refl
-    go range h = made c.address 0x1E 2 [] (omega arith) refl
+    go (range reg len slot over) h = made c.address reg len [] (omega arith) h

@@ -9,13 +9,14 @@ use native.Mathlib.Nat.{not-suc-le-zero, le_of_suc-le-suc}
 use lib.Dec.{eqb, ltb}
 use lib.ListN.{drop}
 use borrow.Author.Tests.{eqb-true, eqb-false, ne_eqb, not-true, not-false}
-use Rattle.session.specs.Records.{step_def, reply}
+use Rattle.session.specs.Records.{reply}
+use Rattle.session.specs.History.{step_def}
 use Rattle.session.specs.Bus.{Transfer, Answer, byte, zero_from}
 use Rattle.session.specs.Instructions.{Op, send_of}
 use Rattle.session.specs.Calls.{ops_of, program_of, ceiling_of, arguments_ok}
 use Rattle.session.specs.Machine.{Session, refused, context_of, to_reply, stray, on_ops, first_transfer_out, outstanding, idle_wrong, up_wrong, malformed, waits_now, ill_formed, reply_def}
 use Rattle.session.specs.Claim1.{refusal_number, Stray, past_length, beside_failure, Accepts}
-use Rattle.session.proofs.Facts.{cond_case, both, clash, untrue, or_parts}
+use Rattle.ground.proofs.Facts.{cond_case, both, clash, untrue, or_parts}
 use Rattle.session.proofs.Cut.{stray_is}
 use Rattle.session.proofs.Accepts.{react_accepts}
 

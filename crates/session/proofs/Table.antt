@@ -2,14 +2,14 @@
 use mathlib.Core.Path.{◌≡◌, sym, subst, ◌∙◌}
 use mathlib.Core.Bool.{Bool, true, ◌&&◌}
 use mathlib.Core.List.{List, [], ◌∷◌}
-use Prim.Native.Nat.{ℕ, zero, suc, ◌+◌, ◌-◌, ◌<◌, ◌≤◌}
+use Prim.Native.Nat.{ℕ, zero, suc, ◌+◌, ◌-◌, ◌%◌, ◌<◌, ◌≤◌}
 use native.Mathlib.Nat.{add-zero, zero-add, add-suc, suc-add, le_of_suc-le-suc, not-suc-le-zero}
 use native.Mathlib.Omega.{arith}
 use lib.Dec.{leb}
 use lib.ListN.{get_or}
 use borrow.Author.Tests.{leb-true}
-use Rattle.session.specs.Calls.{Program, nothing, programs, program_of, top_code, greatest_of, arguments_ok}
-use Rattle.session.proofs.Facts.{both}
+use Rattle.session.specs.Calls.{Program, nothing, programs, program_of, top_code, arguments_ok}
+use Rattle.ground.proofs.Facts.{both}
 
 -- the law P at each row, counted from i
 abbrev pub AllFrom : (ℕ → Program → Type 0) → ℕ → List Program → Type 0
@@ -59,16 +59,28 @@ below_pass test i (suc n) e = let q = both (test i) (all_below test (suc i) n) e
 code_in : (code a b : ℕ) → arguments_ok code a b ≡ true → (1 ≤ code) × (code ≤ top_code)
 unfolding arguments_ok
 code_in code a b e =
-    let q = both (leb 1 code && leb code top_code) (leb a (greatest_of code).0 && leb b (greatest_of code).1) e in
+    let q = both (leb 1 code && leb code top_code) (leb a (program_of code).greatest_a && leb b (program_of code).greatest_b) e in
     let r = both (leb 1 code) (leb code top_code) q.0 in
     (leb-true 1 code r.0, leb-true code top_code r.1)
 
+-- arguments that 13 lets pass are no greater than the call takes
+pub fits_in : (code a b : ℕ) → arguments_ok code a b ≡ true → (a ≤ (program_of code).greatest_a) × (b ≤ (program_of code).greatest_b)
+unfolding arguments_ok
+fits_in code a b e =
+    let q = both (leb 1 code && leb code top_code) (leb a (program_of code).greatest_a && leb b (program_of code).greatest_b) e in
+    let r = both (leb a (program_of code).greatest_a) (leb b (program_of code).greatest_b) q.1 in
+    (leb-true a (program_of code).greatest_a r.0, leb-true b (program_of code).greatest_b r.1)
+
+-- so an address is one byte, a threshold two
+pub address_fits : (code a b : ℕ) → (program_of code).greatest_a ≤ 255 → arguments_ok code a b ≡ true → a % 256 ≡ a
+address_fits code a b h e = omega (arith, (fits_in code a b e).0)
+
 -- a claim of every call from one for each code
-pub by_code_lem : (P : ℕ → Type 0) → AllBelow P 1 15 → (code a b : ℕ) → arguments_ok code a b ≡ true → P code
+pub by_code_lem : (P : ℕ → Type 0) → AllBelow P 1 top_code → (code a b : ℕ) → arguments_ok code a b ≡ true → P code
 by_code_lem P t code a b e =
     let q = code_in code a b e in
     let s : 1 + (code - 1) ≡ code = omega (arith, q.0) in
-    subst P s (below P 1 15 t (code - 1) (omega (arith, q.0, q.1)))
+    subst P s (below P 1 top_code t (code - 1) (omega (arith, q.0, q.1)))
 
 pub code_nonzero : (code a b : ℕ) → arguments_ok code a b ≡ true → code ≡ 0 → ⊥
 code_nonzero code a b e h = omega (arith, (code_in code a b e).0)

@@ -22,7 +22,7 @@ use Rattle.budget.specs.Budget.{with_pre, word_of_sum, word_of_clocks, word_with
 use Rattle.session.specs.Instructions.{Context, panics, Verdict, onward, leap, stop, test}
 use Rattle.session.specs.Steps.{by_place, by_word}
 use Rattle.session.specs.Script.{Script}
-use Rattle.session.proofs.Facts.{cond_same, clash}
+use Rattle.ground.proofs.Facts.{cond_same, clash}
 use Rattle.session.specs.AnySession.{decided}
 use Rattle.session.proofs.Once.{none_is, places_at, by_places, final_macro, spare_sum, word_tests}
 
@@ -97,7 +97,7 @@ pub first_agrees : (r : TimingRegisters) (m : ℕ) → first_place r m ≡ None 
 first_agrees r m h over c κ = rw (new_place r m h) (nested over c κ by_place onward (λ p. refl) refl (places_at (suc m) (entries_of r)))
 
 -- the word of the clocks in all, and of the time left, where there is no place
-module _ (short : Verdict) (r : TimingRegisters) (over : ℕ) (c : Context) (κ : ℕ → Script) where
+module _ (dss : DssTerm) (short : Verdict) (r : TimingRegisters) (over : ℕ) (c : Context) (κ : ℕ → Script) where
   sum_agrees : (n : ℕ) → decided (by_word short (word_of_sum n)) over c κ ≡ decided (test (ltb 65535 n) (stop (panics 9)) onward) over c κ
   unfolding word_of_sum
   sum_agrees n = by (ltb 65535 n)
@@ -109,12 +109,12 @@ module _ (short : Verdict) (r : TimingRegisters) (over : ℕ) (c : Context) (κ 
       by false = refl
 
   within_agrees : (budget : ℕ)
-      → decided (by_word short (word_within r (record { 0 = budget }) (used_sum r DssTerm.Once))) over c κ ≡ decided (word_tests short r budget) over c κ
+      → decided (by_word short (word_within r (record { 0 = budget }) (used_sum r dss))) over c κ ≡ decided (word_tests dss short r budget) over c κ
   unfolding word_within mclks_of
-  within_agrees budget = by (ltb budget (used_sum r DssTerm.Once).0) (ltb 4294967295 (spare_sum r budget)) (eqb (final_macro r) 0)
+  within_agrees budget = by (ltb budget (used_sum r dss).0) (ltb 4294967295 (spare_sum dss r budget)) (eqb (final_macro r) 0)
     where
       clocks : WideMclks
-      clocks = record { 0 = spare_sum r budget / final_macro r }
+      clocks = record { 0 = spare_sum dss r budget / final_macro r }
 
       by : (a b z : Bool)
           → decided (by_word short (cond a (Err NoWord.NoTime) (word_of_clocks (cond b (Err Place.ToMclks) (cond z (Err Place.NoMacroPeriod) (Ok clocks))) r))) over c κ
@@ -125,14 +125,14 @@ module _ (short : Verdict) (r : TimingRegisters) (over : ℕ) (c : Context) (κ 
       by false false false = sum_agrees (with_pre clocks (pre_share r))
 
 -- the last read before the word is written, where the five before it were clear
-pub word_agrees : (short : Verdict) (r : TimingRegisters) (budget : ℕ) → first_place r 5 ≡ None → (over : ℕ) (c : Context) (κ : ℕ → Script)
-    → decided (by_word short (final_range_word r (record { 0 = budget }) DssTerm.Once)) over c κ
-    ≡ decided (by_places (places_at 6 (entries_of r)) (word_tests short r budget)) over c κ
+pub word_agrees : (dss : DssTerm) (short : Verdict) (r : TimingRegisters) (budget : ℕ) → first_place r 5 ≡ None → (over : ℕ) (c : Context) (κ : ℕ → Script)
+    → decided (by_word short (final_range_word r (record { 0 = budget }) dss)) over c κ
+    ≡ decided (by_places (places_at 6 (entries_of r)) (word_tests dss short r budget)) over c κ
 unfolding final_range_word
-word_agrees short r budget h over c κ =
+word_agrees dss short r budget h over c κ =
     rw (new_place r 5 h)
-    (nested over c κ (λ x. by_word short (word_after x r (record { 0 = budget }) DssTerm.Once)) (word_tests short r budget) (λ p. refl)
-    (within_agrees short r over c κ budget) (places_at 6 (entries_of r)))
+    (nested over c κ (λ x. by_word short (word_after x r (record { 0 = budget }) dss)) (word_tests dss short r budget) (λ p. refl)
+    (within_agrees dss short r over c κ budget) (places_at 6 (entries_of r)))
 
 -- where a read goes on it has found no place
 pub place_same : (x : Option Place) (over : ℕ) (c : Context) (κ κ' : ℕ → Script) → (x ≡ None → κ zero ≡ κ' zero)

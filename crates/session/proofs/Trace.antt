@@ -9,12 +9,12 @@ use lib.Dec.{eqb, leb}
 use lib.ListN.{length, drop}
 use borrow.Author.Tests.{leb-true, eqb-true}
 use Rattle.session.specs.Bus.{byte, Reply, bad, good, data_in, Condition}
-use Rattle.session.specs.Instructions.{Context, Op, write, read, wait, range, range_slot, bytes_from, put, send_of, kept_bytes}
+use Rattle.session.specs.Instructions.{Context, Op, write, read, wait, range, bytes_from, put, send_of, kept_bytes}
 use Rattle.session.specs.Steps.{slot}
 use Rattle.session.specs.Calls.{ops_of, program_of}
 use Rattle.session.specs.History.{Exchange, by}
 use Rattle.session.specs.Claim3.{wrote, was_read, first_data}
-use Rattle.session.proofs.Facts.{both, clash}
+use Rattle.ground.proofs.Facts.{both, clash}
 use Rattle.session.proofs.Slots.{length_from, from_at, under, above, within, length_put}
 use Rattle.session.proofs.Shape.{asks_op, full, leaps, one_byte}
 
@@ -29,15 +29,15 @@ apart t k n = leb (k + n) t.slot || leb (t.slot + t.len) k
 -- an operation leaves the slots alone; an operation is the read that fills them
 abbrev pub misses : Track → Op → Bool
 misses t (write reg bytes len over after) = true
-misses t (read reg len k over after) = apart t k len
+misses t (read reg len k finds over after) = apart t k len
 misses t (wait w) = true
-misses t range = apart t range_slot 2
+misses t (range reg len k over) = apart t k len
 
 abbrev pub fills : Track → Op → Bool
 fills t (write reg bytes len over after) = false
-fills t (read reg len k over after) = eqb k t.slot && (eqb len t.len && leb (t.slot + t.len) 24)
+fills t (read reg len k finds over after) = eqb k t.slot && (eqb len t.len && leb (t.slot + t.len) 24)
 fills t (wait w) = false
-fills t range = false
+fills t (range reg len slot over) = false
 
 -- over the operations left: the register is first asked for by the read that fills the slots, and nothing else touches them;
 -- operations are skipped only after that
@@ -88,25 +88,25 @@ missed t l k n bs h i lt = go (leb (k + n) t.slot) refl
 pub untouched : (t : Track) (op : Op) (r : Reply) (l : List ℕ) → misses t op ≡ true → (i : ℕ) → i < t.len
     → byte (t.slot + i) (kept_bytes op r l) ≡ byte (t.slot + i) l
 untouched t (write reg bytes len over after) r l h i lt = refl
-untouched t (read reg len k over after) (bad e) l h i lt = refl
-untouched t (read reg len k over after) (good bs) l h i lt = missed t l k len bs h i lt
+untouched t (read reg len k finds over after) (bad e) l h i lt = refl
+untouched t (read reg len k finds over after) (good bs) l h i lt = missed t l k len bs h i lt
 untouched t (wait w) r l h i lt = refl
-untouched t range (bad e) l h i lt = refl
-untouched t range (good bs) l h i lt = missed t l range_slot 2 bs h i lt
+untouched t (range reg len k over) (bad e) l h i lt = refl
+untouched t (range reg len k over) (good bs) l h i lt = missed t l k len bs h i lt
 
 -- a reply after which the call can go on
 abbrev pub GoesOn : Op → Reply → Type 0
 GoesOn (write reg bytes len over after) r = Unit {0}
-GoesOn (read reg len slot over after) (bad e) = ⊥
-GoesOn (read reg len slot over after) (good bs) = Unit {0}
+GoesOn (read reg len slot finds over after) (bad e) = ⊥
+GoesOn (read reg len slot finds over after) (good bs) = Unit {0}
 GoesOn (wait w) r = Unit {0}
-GoesOn range r = Unit {0}
+GoesOn (range reg len slot over) r = Unit {0}
 
 filled_in : (t : Track) (op : Op) (r : Reply) (l : List ℕ) → GoesOn op r → length l ≡ 24 → fills t op ≡ true
     → (i : ℕ) → i < t.len → byte (t.slot + i) (kept_bytes op r l) ≡ byte i (data_in r)
 filled_in t (write reg bytes len over after) r l g n h i lt = cc
-filled_in t (read reg len k over after) (bad e) l g n h i lt = absurd g
-filled_in t (read reg len k over after) (good bs) l g n h i lt =
+filled_in t (read reg len k finds over after) (bad e) l g n h i lt = absurd g
+filled_in t (read reg len k finds over after) (good bs) l g n h i lt =
     let h₁ = both (eqb k t.slot) (eqb len t.len && leb (t.slot + t.len) 24) h in
     let h₂ = both (eqb len t.len) (leb (t.slot + t.len) 24) h₁.1 in
     let p : k ≡ t.slot = eqb-true k t.slot h₁.0 in
@@ -117,7 +117,7 @@ filled_in t (read reg len k over after) (good bs) l g n h i lt =
     ∙ within (bytes_from 0 len bs) l k i (omega (arith, length_from 0 len bs)) (omega (arith, length_from 0 len bs))
     ∙ from_at 0 len i bs lt' ∙ ap (λ j. byte j bs) (zero-add i)
 filled_in t (wait w) r l g n h i lt = cc
-filled_in t range r l g n h i lt = cc
+filled_in t (range reg len slot over) r l g n h i lt = cc
 
 -- one exchange
 pub trace_step : (t : Track) (op : Op) (rest : List Op) (c : Context) (r : Reply) (l : List ℕ) (ex : List Exchange)
@@ -168,8 +168,8 @@ trace_late t op rest c r l ex f a d =
 
 pub length_kept : (op : Op) (r : Reply) (l : List ℕ) → length (kept_bytes op r l) ≡ length l
 length_kept (write reg bytes len over after) r l = refl
-length_kept (read reg len slot over after) (bad e) l = refl
-length_kept (read reg len slot over after) (good bs) l = length_put l slot (bytes_from 0 len bs)
+length_kept (read reg len slot finds over after) (bad e) l = refl
+length_kept (read reg len slot finds over after) (good bs) l = length_put l slot (bytes_from 0 len bs)
 length_kept (wait w) r l = refl
-length_kept range (bad e) l = refl
-length_kept range (good bs) l = length_put l range_slot (bytes_from 0 2 bs)
+length_kept (range reg len slot over) (bad e) l = refl
+length_kept (range reg len slot over) (good bs) l = length_put l slot (bytes_from 0 len bs)

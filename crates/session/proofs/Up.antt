@@ -8,7 +8,7 @@ use Rattle.session.specs.Bus.{Driver, absent, with_driver_address, with_driver_b
 use Rattle.session.specs.Machine.{not_up}
 use Rattle.session.specs.History.{CallRun}
 use Rattle.session.specs.Claim3.{is_done, up_by, after_done, is_up, driver_of, BegunUp}
-use Rattle.session.proofs.Facts.{clash}
+use Rattle.ground.proofs.Facts.{clash}
 
 -- after an accepted call that is not answered Done
 abbrev pub after_begun : ℕ → Driver → Driver

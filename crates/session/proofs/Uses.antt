@@ -1,4 +1,5 @@
 -- What each instruction looks at of what a call carries: in the bytes that it sends, and in what a good reply decides.
+use borrow.Author.Rules.{rules}
 use mathlib.Core.Path.{◌≡◌, refl, sym, ap, ◌∙◌}
 use mathlib.Core.Bool.{Bool, true, false, cond}
 use mathlib.Core.List.{List, [], ◌∷◌}
@@ -10,11 +11,12 @@ use borrow.Author.Tests.{leb-true}
 use Rattle.timing.specs.Registers.{registers_of}
 use Rattle.timing.specs.Places.{first_place}
 use Rattle.budget.specs.Budget.{final_range_word}
+use Rattle.session.specs.declared.Setting.{Setting}
 use Rattle.session.specs.Bus.{byte}
-use Rattle.session.specs.Instructions.{Instruction, Context, Op, write, read, wait, range, second_slot, bytes_from, timing_in}
+use Rattle.session.specs.Instructions.{Instruction, Context, Op, write, read, wait, range, timing_slot, bytes_from, timing_in}
 use Rattle.session.specs.Steps.{by_place, by_word, dss_of_call9, budget_to_set, word_to_set, no_time, timing_place, op_of}
 use Rattle.session.specs.Calls.{Program, range_result, programs, program_of}
-use Rattle.session.specs.Parts.{Part, byte_in, range_byte_in, failure_code, own_budget, argument_a, argument_b, bytes_in}
+use Rattle.session.specs.Parts.{Part, byte_in, range_byte_in, failure_code, budget_found, argument_a, argument_b, bytes_in}
 use Rattle.session.proofs.Table.{of_table}
 use Rattle.session.proofs.Later.{first_replies}
 
@@ -22,7 +24,7 @@ abbrev pub part_in : Part → Context → ℕ
 part_in (byte_in i) c = byte i c.carried
 part_in (range_byte_in i) c = cond (eqb c.failed 0) (byte i c.carried) 0
 part_in failure_code c = c.failed
-part_in own_budget c = c.own
+part_in budget_found c = c.found_budget
 part_in argument_a c = c.a
 part_in argument_b c = c.b
 
@@ -42,23 +44,21 @@ bytes_same i zero c c' h = refl
 bytes_same i (suc n) c c' h = rw (h.0, bytes_same (suc i) n c c' h.1) refl
 
 -- the budget that is set
-abbrev pub budget_part : ℕ → Part
-budget_part k = cond (eqb k second_slot) own_budget argument_a
+abbrev pub budget_part : Setting → Part
+budget_part Setting.Found = budget_found
+budget_part Setting.Asked = argument_a
 
-pub budget_same : (k : ℕ) (c c' : Context) → part_in (budget_part k) c ≡ part_in (budget_part k) c' → budget_to_set k c ≡ budget_to_set k c'
-budget_same k c c' = go (eqb k second_slot)
-  where
-    go : (t : Bool) → part_in (cond t own_budget argument_a) c ≡ part_in (cond t own_budget argument_a) c' → cond t c.own c.a ≡ cond t c'.own c'.a
-    go true h = h
-    go false h = h
+pub budget_same : (x : Setting) (c c' : Context) → part_in (budget_part x) c ≡ part_in (budget_part x) c' → budget_to_set x c ≡ budget_to_set x c'
+budget_same Setting.Found c c' h = h
+budget_same Setting.Asked c c' h = h
 
-abbrev pub word_parts : ℕ → List Part
-word_parts k = budget_part k ∷ bytes_in k 8
+abbrev pub word_parts : ℕ → Setting → List Part
+word_parts k x = budget_part x ∷ bytes_in k 8
 
-pub word_same : (k : ℕ) (c c' : Context) → On (word_parts k) c c' → word_to_set k c ≡ word_to_set k c'
-word_same k c c' h =
-    ap (λ bs. final_range_word (registers_of bs) (record { 0 = budget_to_set k c }) dss_of_call9) (bytes_same k 8 c c' h.1)
-    ∙ ap (λ b. final_range_word (timing_in k c'.carried) (record { 0 = b }) dss_of_call9) (budget_same k c c' h.0)
+pub word_same : (k : ℕ) (x : Setting) (c c' : Context) → On (word_parts k x) c c' → word_to_set k x c ≡ word_to_set k x c'
+word_same k x c c' h =
+    ap (λ bs. final_range_word (registers_of bs) (record { 0 = budget_to_set x c }) dss_of_call9) (bytes_same k 8 c c' h.1)
+    ∙ ap (λ b. final_range_word (timing_in k c'.carried) (record { 0 = b }) dss_of_call9) (budget_same x c c' h.0)
 
 -- the bytes of the first n budget replies
 abbrev pub reply_bytes : ℕ → ℕ
@@ -75,15 +75,15 @@ places_same n k c c' = go (leb n 5) refl
 
 abbrev pub SendsFrom : Op → List Part → Type 0
 SendsFrom (write reg bytes len over after) ps = (c c' : Context) → Kin c c' → On ps c c' → bytes c ≡ bytes c'
-SendsFrom (read reg len slot over after) ps = Unit {0}
+SendsFrom (read reg len slot finds over after) ps = Unit {0}
 SendsFrom (wait w) ps = Unit {0}
-SendsFrom range ps = Unit {0}
+SendsFrom (range reg len slot over) ps = Unit {0}
 
 abbrev pub DecidesFrom : Op → List Part → Type 0
 DecidesFrom (write reg bytes len over after) ps = (c c' : Context) → On ps c c' → after c ≡ after c'
-DecidesFrom (read reg len slot over after) ps = (c c' : Context) → On ps c c' → after c ≡ after c'
+DecidesFrom (read reg len slot finds over after) ps = (c c' : Context) → On ps c c' → after c ≡ after c'
 DecidesFrom (wait w) ps = Unit {0}
-DecidesFrom range ps = Unit {0}
+DecidesFrom (range reg len slot over) ps = Unit {0}
 
 -- an instruction, with the parts that its transfer is made of and those that its verdict looks at
 pub record Uses (i : Instruction) : Type 0 where
@@ -116,13 +116,12 @@ uses_of Instruction.WriteFunction = record { sends = argument_a ∷ []; sent = �
 uses_of Instruction.WritePolarity = record { sends = argument_b ∷ bytes_in 2 1; sent = λ c c' m h. rw (h.0, h.1.0) refl; decides = []; decided = λ c c' h. refl }
 uses_of Instruction.ReadStatus = record { sends = []; sent = tt; decides = bytes_in 2 1; decided = λ c c' h. rw h.0 refl }
 uses_of (Instruction.ReadTiming n k) = record { sends = []; sent = tt; decides = bytes_in k (reply_bytes n); decided = λ c c' h. ap by_place (places_same n k c c' h) }
-uses_of (Instruction.ReadLast k) = record { sends = []; sent = tt; decides = word_parts k; decided = λ c c' h. ap (by_word (no_time k)) (word_same k c c' h) }
-uses_of Instruction.WriteSteps = record { sends = []; sent = λ c c' m h. refl; decides = own_budget ∷ []; decided = λ c c' h. rw h.0 refl }
-uses_of (Instruction.WriteWord k) = record { sends = word_parts k; sent = λ c c' m h. rw (word_same k c c' h) refl; decides = []; decided = λ c c' h. refl }
-uses_of Instruction.AwaitDetector = record { sends = []; sent = tt; decides = []; decided = tt }
-uses_of Instruction.AwaitStatus = record { sends = []; sent = tt; decides = []; decided = tt }
-uses_of Instruction.AwaitStart = record { sends = []; sent = tt; decides = []; decided = tt }
-uses_of Instruction.ReadRange = record { sends = []; sent = tt; decides = []; decided = tt }
+uses_of Instruction.FindBudget = record { sends = []; sent = tt; decides = bytes_in timing_slot (reply_bytes 6); decided = λ c c' h. ap by_place (places_same 6 timing_slot c c' h) }
+uses_of (Instruction.ReadLast k x) = record { sends = []; sent = tt; decides = word_parts k x; decided = λ c c' h. ap (by_word (no_time x)) (word_same k x c c' h) }
+uses_of Instruction.WriteSteps = record { sends = []; sent = λ c c' m h. refl; decides = budget_found ∷ []; decided = λ c c' h. rw h.0 refl }
+uses_of (Instruction.WriteWord k x) = record { sends = word_parts k x; sent = λ c c' m h. rw (word_same k x c c' h) refl; decides = []; decided = λ c c' h. refl }
+uses_of (Instruction.Await x) = record { sends = []; sent = tt; decides = []; decided = tt }
+uses_of (Instruction.ReadRange reg n k over) = record { sends = []; sent = tt; decides = []; decided = tt }
 
 abbrev pub sends_of : Instruction → List Part
 sends_of i = (uses_of i).sends
@@ -139,7 +138,7 @@ decides_from i = (uses_of i).decided
 -- and what the end of a call does, by its code
 unfoldable pub ends_of : List (List Part)
 ends_of =
-    [] ∷ (argument_a ∷ byte_in 1 ∷ own_budget ∷ []) ∷ bytes_in 0 1 ∷ (argument_a ∷ []) ∷ [] ∷ [] ∷ (failure_code ∷ range_byte_in 4 ∷ range_byte_in 5 ∷ [])
+    [] ∷ (argument_a ∷ byte_in 1 ∷ budget_found ∷ []) ∷ bytes_in 0 1 ∷ (argument_a ∷ []) ∷ [] ∷ [] ∷ (failure_code ∷ range_byte_in 4 ∷ range_byte_in 5 ∷ [])
     ∷ (failure_code ∷ range_byte_in 4 ∷ range_byte_in 5 ∷ [])
     ∷ (failure_code ∷ range_byte_in 4 ∷ range_byte_in 5 ∷ [])
     ∷ (argument_a ∷ [])
@@ -148,7 +147,7 @@ ends_of =
     ∷ []
     ∷ []
     ∷ []
-    ∷ (own_budget ∷ [])
+    ∷ (budget_found ∷ [])
     ∷ []
 
 abbrev pub end_of : ℕ → List Part
@@ -169,52 +168,4 @@ range_ends c c' m h = go c.failed c'.failed refl refl h
 pub ends_from : (code : ℕ) (c c' : Context) → Kin c c' → On (end_of code) c c' → (program_of code).final c ≡ (program_of code).final c'
 unfolding programs ends_of
 ends_from =
-    of_table EndsFrom (λ k c c' m h. refl) (
-      λ c c' m h. refl,
-      (
-        λ c c' m h. rw (h.0, h.1.0, h.1.1.0) refl,
-        (
-          λ c c' m h. rw (m.driver, h.0) refl,
-          (
-            λ c c' m h. rw (m.driver, h.0) refl,
-            (
-              λ c c' m h. rw m.driver refl,
-              (
-                λ c c' m h. rw m.driver refl,
-                (
-                  range_ends,
-                  (
-                    range_ends,
-                    (
-                      range_ends,
-                      (
-                        λ c c' m h. rw (m.driver, h.0) refl,
-                        (
-                          λ c c' m h. rw m.driver refl,
-                          (
-                            λ c c' m h. rw (m.driver, h.0, h.1.0, h.1.1.0, h.1.1.1.0) refl,
-                            (
-                              λ c c' m h. rw m.driver refl,
-                              (
-                                λ c c' m h. rw m.driver refl,
-                                (
-                                  λ c c' m h. rw m.driver refl,
-                                  (
-                                    λ c c' m h. rw (m.driver, h.0) refl,
-                                    tt,
-                                  ),
-                                ),
-                              ),
-                            ),
-                          ),
-                        ),
-                      ),
-                    ),
-                  ),
-                ),
-              ),
-            ),
-          ),
-        ),
-      ),
-    )
+    of_table EndsFrom (λ k c c' m h. refl) (search (rules, range_ends))

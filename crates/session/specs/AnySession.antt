@@ -1,12 +1,13 @@
 -- What holds of every session that is handed in, also one that no run leaves: a call begins with its own code, arguments and count, and a call that
 -- waits goes on in what is left of its script. SCOPE 2.2: arithmetic on the bytes that a session carries gives the first place in the Rust's order
 -- there too.
-use Rattle.std.specs.Prelude.{◌≡◌, true, false, ◌&&◌, cond, eqb, leb, get_or, List, [], ◌∷◌, ◌++◌, ℕ, zero, suc, ◌+◌, ◌-◌, ◌*◌, ◌/◌, ◌%◌, ◌≤◌, length, take, drop}
+use Rattle.std.specs.Prelude.{◌≡◌, true, false, cond, eqb, get_or, List, [], ◌∷◌, ◌++◌, ℕ, zero, suc, ◌+◌, ◌-◌, ◌*◌, ◌/◌, ◌%◌, ◌≤◌, length, take, drop}
 use Rattle.session.specs.Bus.{byte, absent, transfer_of, with_driver_address, with_driver_budget, Driver, Transfer, Answer, Reply, bad, good, wait_limit, idle_on, zero_from, clean_from, number_of}
 use Rattle.session.specs.Instructions.{Context, bytes_from, stop_answer, Verdict, onward, leap, stop, test, Op, write, read, wait, range, Final, success, failure, send_of, kept_bytes, kept_failure, kept_budget, read_wins, report_of}
 use Rattle.session.specs.Calls.{ops_of, program_of}
 use Rattle.session.specs.Machine.{Session, Outcome, sent, answered, refused, broken, resting, context_of, begun, outstanding}
-use Rattle.session.specs.Records.{call, reply, step_def}
+use Rattle.session.specs.Records.{call, reply}
+use Rattle.session.specs.History.{step_def}
 use Rattle.session.specs.Script.{Script, done, send, on_reply, wait_loop, cut}
 use Rattle.session.specs.Refusals.{Underway}
 use Rattle.session.specs.RustFn.{Chip, ◌>>◌, Ok}
@@ -16,7 +17,7 @@ use Rattle.session.specs.RustBringUp.{enable_ref_spads, method, constructed, num
 use Rattle.session.specs.Claim1.{chip_address}
 use Rattle.session.specs.Claim2.{Accepted}
 use Rattle.session.specs.Claim3.{reported}
-use Rattle.session.specs.Parts.{Part, part_of, needed, looked_at, sent_from, kept_rows, kept_at, reads_range_at, gives_budget}
+use Rattle.session.specs.Parts.{Part, part_of, needed, looked_at, sent_from, kept_rows, kept_at, reads_range_at, clears_at, gives_budget}
 
 abbrev pub keeping : Context → Op → Reply → Context
 keeping c op r =
@@ -27,7 +28,7 @@ keeping c op r =
       a = c.a;
       b = c.b;
       failed = kept_failure op r c.failed;
-      own = kept_budget op r c.carried c.own;
+      found_budget = kept_budget op r c.carried c.found_budget;
       carried = kept_bytes op r c.carried;
     }
 
@@ -51,22 +52,23 @@ resume fin (suc n) (op ∷ ops) c = resume fin n ops c
 resume fin zero (write reg bytes len over after ∷ ops) c =
     send (send_of (write reg bytes len over after) c)
     (λ r. on_reply r (λ e. done (Answer.BusError (report_of (read_wins c.code) c.failed (suc e))) c.driver) (λ bs. decided (after c) over c (λ n. resume fin n ops c)))
-resume fin zero (read reg len slot over after ∷ ops) c =
-    send (send_of (read reg len slot over after) c)
+resume fin zero (read reg len slot finds over after ∷ ops) c =
+    send (send_of (read reg len slot finds over after) c)
     (λ r. on_reply r (failing c)
-    (λ bs. decided (after (keeping c (read reg len slot over after) (good bs))) over (keeping c (read reg len slot over after) (good bs)) (λ n. resume fin n ops (keeping c (read reg len slot over after) (good bs)))))
+    (λ bs. decided (after (keeping c (read reg len slot finds over after) (good bs))) over (keeping c (read reg len slot finds over after) (good bs)) (λ n. resume fin n ops (keeping c (read reg len slot finds over after) (good bs)))))
 resume fin zero (wait x ∷ ops) c =
     wait_loop (wait_limit c.code x) (send_of (wait x) c) (idle_on x) (failing c) (done Answer.Timeout c.driver) (resume fin zero ops c)
-resume fin zero (range ∷ ops) c =
-    send (send_of range c) (λ r. on_reply r (λ e. resume fin zero ops (keeping c range (bad e))) (λ bs. resume fin zero ops (keeping c range (good bs))))
+resume fin zero (range reg len slot over ∷ ops) c =
+    send (send_of (range reg len slot over) c)
+    (λ r. on_reply r (λ e. resume fin over ops (keeping c (range reg len slot over) (bad e))) (λ bs. resume fin zero ops (keeping c (range reg len slot over) (good bs))))
 
 -- the same where the first of them is out, after i idle reads of it
 abbrev pub resume_in : (Context → Final) → ℕ → Op → List Op → Context → Script
 resume_in fin i (write reg bytes len over after) rest c = resume fin zero (write reg bytes len over after ∷ rest) c
-resume_in fin i (read reg len slot over after) rest c = resume fin zero (read reg len slot over after ∷ rest) c
+resume_in fin i (read reg len slot finds over after) rest c = resume fin zero (read reg len slot finds over after ∷ rest) c
 resume_in fin i (wait w) rest c =
     wait_loop (wait_limit c.code w - i) (send_of (wait w) c) (idle_on w) (failing c) (done Answer.Timeout c.driver) (resume fin zero rest c)
-resume_in fin i range rest c = resume fin zero (range ∷ rest) c
+resume_in fin i (range reg len slot over) rest c = resume fin zero (range reg len slot over ∷ rest) c
 
 abbrev pub left_of : (Context → Final) → ℕ → List Op → Context → Script
 left_of fin i [] c = concluded (fin c) c.driver
@@ -101,7 +103,7 @@ abbrev pub BeginsAt : Session → ℕ → ℕ → ℕ → Type 0
 BeginsAt s code a b =
     Accepted s code a b
     → StandsAt (begun s code a b) (step_def s (call code a b))
-    (decided ((program_of code).entry (context_of (begun s code a b))) 0 (context_of (begun s code a b)) (λ n. resume (program_of code).final n (ops_of (program_of code)) (context_of (begun s code a b))))
+    (decided ((program_of code).entry (context_of (begun s code a b))) (length (program_of code).steps) (context_of (begun s code a b)) (λ n. resume (program_of code).final n (ops_of (program_of code)) (context_of (begun s code a b))))
 
 -- a waiting session that 15 lets pass, also one that no run leaves, stands in the script of its instructions:
 -- a reply that is not refused takes both one step on
@@ -154,7 +156,7 @@ abbrev pub Keeps : Session → ℕ → List ℕ → Outcome → Type 0
 Keeps s f bs (sent t s') =
     (s'.carried ≡ cond (eqb f 0) (kept_at s.code s.step kept_rows s.carried bs) s.carried)
     × (s'.failed ≡ cond (reads_range_at s.code s.step) f s.failed)
-    × (s.code ≡ 1 → gives_budget s.code s.step ≡ false → s'.own ≡ s.own)
+    × (s.code ≡ 1 → gives_budget s.code s.step ≡ false → s'.found_budget ≡ s.found_budget)
 Keeps s f bs (answered x n s') = Unit {0}
 Keeps s f bs (refused x s') = Unit {0}
 Keeps s f bs (broken s') = Unit {0}
@@ -166,7 +168,7 @@ KeepsTheRest s f bs = Underway s → Keeps s f bs (step_def s (reply f bs))
 -- FAILURES. The code that a failed reply ends a call with. SCOPE 5.8: if the clearing fails too, call 6 reports the read's code, calls 7 and 8 the
 -- clearing's. The clearing comes after the range read
 abbrev pub failure_reported : Session → ℕ → ℕ
-failure_reported s f = cond (eqb s.code 6 && leb 2 s.step) (reported s.code s.failed f) f
+failure_reported s f = cond (clears_at s.code s.step) (reported s.code s.failed f) f
 
 -- SCOPE 6: a bring-up that ends so leaves none
 abbrev pub fields_left : Session → Driver
@@ -231,12 +233,12 @@ writes_of s =
     ∷ (1, 32, 0x83 ∷ and_u8 (byte 2 s.carried) 0xFB ∷ [], 1)
     ∷ (1, 43, 0xB0 ∷ bytes_from 0 6 (enable_ref_spads (spad_count (byte 3 s.carried)) (type_is_aperture (byte 3 s.carried)) (bytes_from 16 6 s.carried)), 6)
     ∷ (1, 126, 0x84 ∷ and_u8 (byte 2 s.carried) 0xEF ∷ [], 1)
-    ∷ (3, 0, 0x8A ∷ s.a ∷ [], 0)
+    ∷ (3, 0, 0x8A ∷ s.a % 256 ∷ [], 0)
     ∷ (4, 3, 0x91 ∷ s.driver.stop ∷ [], 1)
     ∷ (4, 8, 0x04 ∷ long_sent (period_sent s.a (word_at 8 s.carried)), 1)
     ∷ (4, 9, 0x00 ∷ cond (eqb s.a 0) 0x02 0x04 ∷ [], 1)
     ∷ (8, 3, 0x91 ∷ s.driver.stop ∷ [], 1)
-    ∷ (10, 0, 0x0E ∷ word_sent (threshold_raw s.a), 1)
+    ∷ (10, 0, 0x0E ∷ word_sent (threshold_raw (s.a % 65536)), 1)
     ∷ (10, 1, 0x0C ∷ word_sent (threshold_raw s.b), 1)
     ∷ (12, 0, 0x0A ∷ get_or (0x04 ∷ 0x01 ∷ 0x02 ∷ 0x03 ∷ []) s.a 0 ∷ [], 1)
     ∷ (12, 2, 0x84 ∷ cond (eqb s.b 0) (and_u8 (byte 2 s.carried) 0xEF) (or_u8 (byte 2 s.carried) 0x10) ∷ [], 1)
@@ -254,9 +256,9 @@ range_answer s = cond (eqb s.failed 0) (Answer.Done (word_at 4 s.carried)) (Answ
 -- code, last step, and the answer and fields that a good reply there gives
 abbrev pub answers_of : Session → List ℕ → List (ℕ × ℕ × Answer × Driver)
 answers_of s bs =
-    (1, 155, Answer.Done 0, record { up = true; address = s.a; stop = byte 1 s.carried; budget = s.own })
+    (1, 155, Answer.Done 0, record { up = true; address = s.a % 256; stop = byte 1 s.carried; budget = s.found_budget })
     ∷ (2, 0, Answer.Done (byte 0 bs), s.driver)
-    ∷ (3, 0, Answer.Done 0, with_driver_address s.driver s.a)
+    ∷ (3, 0, Answer.Done 0, with_driver_address s.driver (s.a % 256))
     ∷ (4, 9, Answer.Done 0, s.driver)
     ∷ (5, 5, Answer.Done 0, s.driver)
     ∷ (6, 3, range_answer s, s.driver)
@@ -300,14 +302,14 @@ after_replies x (r ∷ rs) = after_replies (hears x r) rs
 
 -- what a bring-up keeps apart: its address, its stop byte, its budget
 abbrev pub chip_in : Session → ℕ → Chip
-chip_in s budget = record { address = s.a; stop_variable = byte 1 s.carried; measurement_timing_budget_microseconds = budget }
+chip_in s budget = record { address = s.a % 256; stop_variable = byte 1 s.carried; measurement_timing_budget_microseconds = budget }
 
 -- a call waits for the budget reply that comes after n others, whose bytes are carried from slot k on; `x` is lib.rs from the first of the six reads on
 pub data BudgetReply (s : Session) (n : ℕ) : ℕ → Script → Type 0 where
   in_call_15 : s.code ≡ 15 → s.step ≡ n → BudgetReply s n 8 (method number s.driver get_measurement_timing_budget)
   in_call_9 : s.code ≡ 9 → s.step ≡ n → BudgetReply s n 8 (method flag s.driver (set_budget_from_reads s.a))
   in_bring_up : s.code ≡ 1 → s.step ≡ 129 + n → BudgetReply s n 8 (constructed (chip_in s 0) budget_and_calibration)
-  again_in_bring_up : s.code ≡ 1 → s.step ≡ 136 + n → BudgetReply s n 16 (constructed (chip_in s s.own) (set_budget_from_reads s.own >> calibration))
+  again_in_bring_up : s.code ≡ 1 → s.step ≡ 136 + n → BudgetReply s n 16 (constructed (chip_in s s.found_budget) (set_budget_from_reads s.found_budget >> calibration))
 
 -- SCOPE 2.2: the first place in the Rust's order, also on bytes that no run leaves. The reply leads where lib.rs is after the carried bytes as
 -- replies and then this one: to its panic if they have one, else to its next read, its word or its answer
@@ -322,7 +324,7 @@ FirstPlace s bs =
 -- a call waits with a final range word out; `x` is lib.rs from the first of the six reads on
 pub data WordIsOut (s : Session) : ℕ → Script → Type 0 where
   of_call_9 : s.code ≡ 9 → s.step ≡ 6 → WordIsOut s 8 (method flag s.driver (set_budget_from_reads s.a))
-  of_bring_up : s.code ≡ 1 → s.step ≡ 142 → WordIsOut s 16 (constructed (chip_in s s.own) (set_budget_from_reads s.own >> calibration))
+  of_bring_up : s.code ≡ 1 → s.step ≡ 142 → WordIsOut s 16 (constructed (chip_in s s.found_budget) (set_budget_from_reads s.found_budget >> calibration))
 
 -- where lib.rs writes a word after the carried bytes as replies, that transfer is out
 abbrev pub WordOut : Session → Type 0
@@ -340,7 +342,7 @@ StepsWritten s bs =
     → Underway s
     → length s.carried ≡ 24
     → zero_from (clean_from 0 (outstanding s).reads) bs ≡ true
-    → StandsAt s (step_def s (reply 0 bs)) (constructed (chip_in s s.own) (set_measurement_timing_budget s.own >> calibration))
+    → StandsAt s (step_def s (reply 0 bs)) (constructed (chip_in s s.found_budget) (set_measurement_timing_budget s.found_budget >> calibration))
 
 -- and SCOPE 5.7: period × oscillator word above 32 bits is place 1: call 4, with a period, waits for the oscillator word
 abbrev pub FirstPlaceOfPeriod : Session → List ℕ → Type 0

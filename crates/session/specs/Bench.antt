@@ -4,9 +4,9 @@ use Rattle.std.specs.Prelude.{◌≡◌, true, false, List, [], ◌∷◌, map, 
 use Rattle.std.proofs.lemmas.List.Edits.{sets}
 use Rattle.session.specs.Bus.{Driver, Answer, transfer_of, number_of, values_of}
 use Rattle.session.specs.Instructions.{timing_slot}
-use Rattle.session.specs.Machine.{Session, Outcome, sent, answered, broken, zeros, resting, fresh_session, reply_def}
-use Rattle.session.specs.Records.{call, reply, other, call_bytes, reply_bytes, records_of, step_def}
-use Rattle.session.specs.History.{transfer, answer, refusal, Entry, run_def}
+use Rattle.session.specs.Machine.{Session, Outcome, sent, answered, broken, zeros, calling, with_place, with_kept, resting, fresh_session, reply_def}
+use Rattle.session.specs.Records.{call, reply, other, call_bytes, reply_bytes, records_of}
+use Rattle.session.specs.History.{step_def, transfer, answer, refusal, Entry, run_def}
 use Rattle.session.specs.Claim1.{refusal_number}
 
 -- SCOPE 10.1: the input that prints T 29 C0 1 and A 2 0 1
@@ -39,18 +39,7 @@ pub record AnswerValues : Type 0 where
 -- a call waits, in a session that is up at 0x29: code, A, B, step, transfers, and bytes carried from slot 8 on
 abbrev pub held : ℕ → ℕ → ℕ → ℕ → ℕ → List ℕ → Session
 held code a b step transfers bytes =
-    record {
-      driver = record { up = true; address = 0x29; stop = 0x3C; budget = 31326 };
-      code = code;
-      a = a;
-      b = b;
-      step = step;
-      idle = 0;
-      transfers = transfers;
-      failed = 0;
-      own = 0;
-      carried = sets zeros timing_slot bytes;
-    }
+    with_kept 0 0 (sets zeros timing_slot bytes) (with_place step 0 transfers (calling (record { up = true; address = 0x29; stop = 0x3C; budget = 31326 }) code a b))
 
 -- answers 8 with this place
 abbrev pub Panics : Session → ℕ → Outcome → Type 0
@@ -142,7 +131,7 @@ pub record SessionValues : Type 0 where
   pub carried : CarriedPlaces
   pub held : HeldValues
   -- an answer leaves the driver's fields and zeros
-  pub rest : (d : Driver) → resting d ≡ record { driver = d; code = 0; a = 0; b = 0; step = 0; idle = 0; transfers = 0; failed = 0; own = 0; carried = replicate 24 0 }
+  pub rest : (d : Driver) → resting d ≡ record { driver = d; code = 0; a = 0; b = 0; step = 0; idle = 0; transfers = 0; failed = 0; found_budget = 0; carried = replicate 24 0 }
   pub edges : EdgeValues
   pub refused : (run_def fresh_session refused_input).history ≡ refused_history
   pub counted : (run_def fresh_session refused_input).counts ≡ record { calls = 2; answers = 1; replies = 1; transfers = 2; refused = 6 }
@@ -156,7 +145,7 @@ pub record SessionValues : Type 0 where
         idle = 0;
         transfers = 0;
         failed = 0;
-        own = 0;
+        found_budget = 0;
         carried = replicate 24 0;
       }
   -- eight different bytes of each kind

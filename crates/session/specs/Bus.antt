@@ -4,6 +4,7 @@ use Rattle.std.specs.Prelude.{Bool, true, false, not, ◌&&◌, List, [], ◌∷
 pub use Rattle.session.specs.declared.Driver.{Driver}
 pub use Rattle.session.specs.declared.Transfer.{Transfer}
 pub use Rattle.session.specs.declared.Answer.{Answer}
+pub use Rattle.session.specs.declared.Condition.{Condition}
 
 -- the byte at i; 0 past the end
 abbrev pub byte : ℕ → List ℕ → ℕ
@@ -50,63 +51,47 @@ clean_from (suc e) n = 0
 
 -- SCOPE 4.2: the detector wait is met when 0x83 is not 0, the status wait when one of the low three bits of 0x13 is set,
 -- the start wait when bit 0 of 0x00 is clear
-pub data Condition : Type 0 where
-  detector_ready status_ready started : Condition
-
 abbrev pub wait_register : Condition → ℕ
-wait_register detector_ready = 0x83
-wait_register status_ready = 0x13
-wait_register started = 0x00
+wait_register Condition.DetectorReady = 0x83
+wait_register Condition.StatusReady = 0x13
+wait_register Condition.Started = 0x00
 
 -- by the call's code too: a call may have limits of its own
 abbrev pub wait_limit : ℕ → Condition → ℕ
-wait_limit code detector_ready = 65535
-wait_limit code status_ready = 10000
-wait_limit code started = 10000
+wait_limit code Condition.DetectorReady = 65535
+wait_limit code Condition.StatusReady = 10000
+wait_limit code Condition.Started = 10000
 
 -- the condition is unmet
 unfoldable pub idle_on : Condition → List ℕ → Bool
-idle_on detector_ready bs = eqb (byte 0 bs) 0
-idle_on status_ready bs = eqb (byte 0 bs % 8) 0
-idle_on started bs = not (eqb (byte 0 bs % 2) 0)
+idle_on Condition.DetectorReady bs = eqb (byte 0 bs) 0
+idle_on Condition.StatusReady bs = eqb (byte 0 bs % 8) 0
+idle_on Condition.Started bs = not (eqb (byte 0 bs % 2) 0)
 
--- SCOPE 9.1: the number of each answer
+-- SCOPE 9.1: the number of each answer, and its values, one today (SCOPE 2.3)
+abbrev pub shown : Answer → ℕ × List ℕ
+shown (Answer.Done value) = (0, value ∷ [])
+shown Answer.False = (1, 0 ∷ [])
+shown (Answer.InvalidDevice byte) = (2, byte ∷ [])
+shown (Answer.BusError code) = (3, code ∷ [])
+shown Answer.Timeout = (4, 0 ∷ [])
+shown (Answer.InvalidAddress address) = (5, address ∷ [])
+shown Answer.InvalidArgument = (6, 0 ∷ [])
+shown Answer.WouldBlock = (7, 0 ∷ [])
+shown (Answer.Panic place) = (8, place ∷ [])
+shown Answer.NotUp = (9, 0 ∷ [])
+shown Answer.CallWaits = (10, 0 ∷ [])
+shown Answer.NoCallWaits = (11, 0 ∷ [])
+shown Answer.StrayByte = (12, 0 ∷ [])
+shown Answer.IllFormedRecord = (13, 0 ∷ [])
+shown Answer.SpareBytes = (14, 0 ∷ [])
+shown Answer.IllFormedSession = (15, 0 ∷ [])
+
 abbrev pub number_of : Answer → ℕ
-number_of (Answer.Done value) = 0
-number_of Answer.False = 1
-number_of (Answer.InvalidDevice byte) = 2
-number_of (Answer.BusError code) = 3
-number_of Answer.Timeout = 4
-number_of (Answer.InvalidAddress address) = 5
-number_of Answer.InvalidArgument = 6
-number_of Answer.WouldBlock = 7
-number_of (Answer.Panic place) = 8
-number_of Answer.NotUp = 9
-number_of Answer.CallWaits = 10
-number_of Answer.NoCallWaits = 11
-number_of Answer.StrayByte = 12
-number_of Answer.IllFormedRecord = 13
-number_of Answer.SpareBytes = 14
-number_of Answer.IllFormedSession = 15
+number_of x = (shown x).0
 
--- and its values, one today: a definition gives both (SCOPE 2.3)
 abbrev pub values_of : Answer → List ℕ
-values_of (Answer.Done value) = value ∷ []
-values_of Answer.False = 0 ∷ []
-values_of (Answer.InvalidDevice byte) = byte ∷ []
-values_of (Answer.BusError code) = code ∷ []
-values_of Answer.Timeout = 0 ∷ []
-values_of (Answer.InvalidAddress address) = address ∷ []
-values_of Answer.InvalidArgument = 0 ∷ []
-values_of Answer.WouldBlock = 0 ∷ []
-values_of (Answer.Panic place) = place ∷ []
-values_of Answer.NotUp = 0 ∷ []
-values_of Answer.CallWaits = 0 ∷ []
-values_of Answer.NoCallWaits = 0 ∷ []
-values_of Answer.StrayByte = 0 ∷ []
-values_of Answer.IllFormedRecord = 0 ∷ []
-values_of Answer.SpareBytes = 0 ∷ []
-values_of Answer.IllFormedSession = 0 ∷ []
+values_of x = (shown x).1
 
 -- SCOPE 6: while the session is not up all three are 0
 abbrev pub absent : Driver

@@ -1,14 +1,19 @@
 -- The calls: what their arguments decide, their instructions, and how they end. SCOPE 5; the transfers are those of lib.rs, in its order.
-use Rattle.std.specs.Prelude.{Bool, true, ◌||◌, ◌&&◌, List, [], ◌∷◌, ◌++◌, map, ℕ, zero, suc, ◌+◌, ◌*◌, ltb, leb, get_or, Option, None, Some, Result, Ok, Err}
+use Rattle.std.specs.Prelude.{Bool, true, ◌||◌, ◌&&◌, List, [], ◌∷◌, ◌++◌, map, ℕ, zero, suc, ◌+◌, ◌-◌, ◌*◌, ltb, leb, length, get_or, is_none, is_err}
 use Rattle.rate.specs.Rate.{signal_rate_limit_word}
-use Rattle.threshold.specs.declared.InvalidArgument.{InvalidArgument}
 use Rattle.threshold.specs.Threshold.{check_thresholds, decode_threshold}
-use Rattle.session.specs.Bus.{byte, Driver, with_driver_address, with_driver_budget}
+use Rattle.session.specs.declared.Setting.{Setting}
+use Rattle.session.specs.Bus.{byte, Condition, Driver, with_driver_address, with_driver_budget}
 use Rattle.session.specs.Instructions.{Instruction, Context, declines, wrong_address, wrong_argument, Verdict, onward, stop, test, Op, Final, success, failure, identity_slot, stop_slot, mask_slot, spad_slot, range_slot, timing_slot, second_slot}
-use Rattle.session.specs.Steps.{slot, slot_word, pass, too_short, op_of}
+use Rattle.budget.specs.Budget.{too_short}
+use Rattle.session.specs.Steps.{slot, slot_word, pass, address_in, low_in, op_of}
 
--- a call: what its arguments decide, its instructions, and its end after the last
+-- SCOPE 5.1: a call: the greatest A and B that it takes, its ceiling of transfers, what its arguments decide, its instructions, and its end
+-- after the last. An entry that leaps leaves out all of them
 pub record Program : Type 0 where
+  pub greatest_a : ℕ
+  pub greatest_b : ℕ
+  pub ceiling : ℕ
   pub entry : Context → Verdict
   pub steps : List Instruction
   pub final : Context → Final
@@ -33,11 +38,11 @@ timing_reads k =
 
 -- lib.rs: get_measurement_timing_budget
 abbrev pub budget_reads : List Instruction
-budget_reads = timing_reads timing_slot ++ Instruction.ReadTiming 6 timing_slot ∷ []
+budget_reads = timing_reads timing_slot ++ Instruction.FindBudget ∷ []
 
 -- lib.rs: set_measurement_timing_budget after its first test
-abbrev pub budget_steps : ℕ → List Instruction
-budget_steps k = timing_reads k ++ Instruction.ReadLast k ∷ Instruction.WriteWord k ∷ []
+abbrev pub budget_steps : ℕ → Setting → List Instruction
+budget_steps k x = timing_reads k ++ Instruction.ReadLast k x ∷ Instruction.WriteWord k x ∷ []
 
 -- lib.rs: set_gpio_config
 abbrev pub gpio_steps : Instruction → Instruction → List Instruction
@@ -45,7 +50,7 @@ gpio_steps function polarity = function ∷ Instruction.Read 0x84 mask_slot ∷ 
 
 -- lib.rs: perform_single_ref_calibration
 abbrev pub calibration : ℕ → List Instruction
-calibration b = Instruction.Write 0x00 b ∷ Instruction.AwaitStatus ∷ clearing ++ Instruction.Write 0x00 0x00 ∷ []
+calibration b = Instruction.Write 0x00 b ∷ Instruction.Await Condition.StatusReady ∷ clearing ++ Instruction.Write 0x00 0x00 ∷ []
 
 -- lib.rs: the first six writes of start_continuous and of read_range_single_millimeters_blocking
 abbrev pub preparation : List Instruction
@@ -72,7 +77,7 @@ spad_steps =
     ++ Instruction.Read 0x83 mask_slot
     ∷ Instruction.WriteOr 0x83 0x04
     ∷ rows ((0xFF, 0x07) ∷ (0x81, 0x01) ∷ (0x80, 0x01) ∷ (0x94, 0x6B) ∷ (0x83, 0x00) ∷ [])
-    ++ Instruction.AwaitDetector
+    ++ Instruction.Await Condition.DetectorReady
     ∷ Instruction.Write 0x83 0x01
     ∷ Instruction.Read 0x92 spad_slot
     ∷ Instruction.Write 0x81 0x00
@@ -102,7 +107,7 @@ bring_up_steps =
     ++ gpio_steps (Instruction.Write 0x0A 0x04) (Instruction.WriteAnd 0x84 0xEF)
     ++ budget_reads
     ++ Instruction.WriteSteps
-    ∷ budget_steps second_slot
+    ∷ budget_steps second_slot Setting.Found
     ++ Instruction.Write 0x01 0x01
     ∷ calibration 0x41
     ++ Instruction.Write 0x01 0x02
@@ -112,7 +117,7 @@ bring_up_steps =
 
 -- SCOPE 6: a bring-up's argument, the byte that it read at 0x91, and what call 15 would give for its first six budget reads
 abbrev pub brought_up : ℕ → List ℕ → ℕ → Driver
-brought_up a carried own = record { up = true; address = a; stop = byte stop_slot carried; budget = own }
+brought_up a carried found_budget = record { up = true; address = a; stop = byte stop_slot carried; budget = found_budget }
 
 abbrev pub finishes : (Context → ℕ) → Context → Final
 finishes value c = success (value c) c.driver
@@ -125,72 +130,108 @@ by_code (suc e) f = failure (suc e)
 abbrev pub range_result : Context → Final
 range_result c = by_code c.failed (finishes (slot_word range_slot) c)
 
--- a call that its arguments cannot end, with a value
-abbrev pub valued : List Instruction → (Context → ℕ) → Program
-valued steps value = record { entry = pass; steps = steps; final = finishes value }
+-- a call that takes no arguments, with its ceiling, its instructions and its value
+abbrev pub valued : ℕ → List Instruction → (Context → ℕ) → Program
+valued most steps value =
+    record { greatest_a = 0; greatest_b = 0; ceiling = most; entry = pass; steps = steps; final = finishes value }
 
 -- and with none
-abbrev pub plain : List Instruction → Program
-plain steps = valued steps (λ c. 0)
+abbrev pub plain : ℕ → List Instruction → Program
+plain most steps = valued most steps (λ c. 0)
 
-abbrev pub ranging : List Instruction → Program
-ranging steps = record { entry = pass; steps = steps ++ Instruction.ReadRange ∷ clearing; final = range_result }
+-- SCOPE 8.3: the range read is the read of the word at 0x1E
+abbrev pub read_range : Instruction
+read_range = Instruction.ReadRange 0x1E 2 range_slot 0
+
+abbrev pub ranging : ℕ → List Instruction → Program
+ranging most steps =
+    record {
+      greatest_a = 0;
+      greatest_b = 0;
+      ceiling = most;
+      entry = pass;
+      steps = steps ++ read_range ∷ clearing;
+      final = range_result;
+    }
 
 -- call 1, lib.rs: with_address
 abbrev pub with_address_call : Program
-with_address_call = record { entry = pass; steps = bring_up_steps; final = λ c. success 0 (brought_up c.a c.carried c.own) }
+with_address_call =
+    record {
+      greatest_a = 255;
+      greatest_b = 0;
+      ceiling = 85688;
+      entry = pass;
+      steps = bring_up_steps;
+      final = λ c. success 0 (brought_up (address_in c) c.carried c.found_budget);
+    }
 
 -- call 2, lib.rs: who_am_i
 abbrev pub who_am_i_call : Program
-who_am_i_call = valued (Instruction.Read 0xC0 identity_slot ∷ []) (slot identity_slot)
+who_am_i_call = valued 1 (Instruction.Read 0xC0 identity_slot ∷ []) (slot identity_slot)
 
 -- call 3, lib.rs: set_address. SCOPE 5.6: it takes 0x08 to 0x77
 abbrev pub set_address_call : Program
 set_address_call =
     record {
-      entry = λ c. test (ltb c.a 0x08 || ltb 0x77 c.a) (stop (wrong_address c.a)) onward;
+      greatest_a = 255;
+      greatest_b = 0;
+      ceiling = 1;
+      entry = λ c. test (ltb (address_in c) 0x08 || ltb 0x77 (address_in c)) (stop (wrong_address (address_in c))) onward;
       steps = Instruction.WriteAddress ∷ [];
-      final = λ c. success 0 (with_driver_address c.driver c.a);
+      final = λ c. success 0 (with_driver_address c.driver (address_in c));
     }
 
 -- call 4, lib.rs: start_continuous
 abbrev pub start_continuous_call : Program
-start_continuous_call = plain (preparation ++ Instruction.Prepared ∷ Instruction.ReadOscillator ∷ Instruction.WritePeriod ∷ Instruction.WriteMode ∷ [])
+start_continuous_call =
+    record {
+      greatest_a = 4294967295;
+      greatest_b = 0;
+      ceiling = 10;
+      entry = pass;
+      steps = preparation ++ Instruction.Prepared ∷ Instruction.ReadOscillator ∷ Instruction.WritePeriod ∷ Instruction.WriteMode ∷ [];
+      final = finishes (λ c. 0);
+    }
 
 -- call 5, lib.rs: stop_continuous
 abbrev pub stop_continuous_call : Program
-stop_continuous_call = plain (rows ((0x00, 0x01) ∷ (0xFF, 0x01) ∷ (0x00, 0x00) ∷ (0x91, 0x00) ∷ (0x00, 0x01) ∷ (0xFF, 0x00) ∷ []))
+stop_continuous_call = plain 6 (rows ((0x00, 0x01) ∷ (0xFF, 0x01) ∷ (0x00, 0x00) ∷ (0x91, 0x00) ∷ (0x00, 0x01) ∷ (0xFF, 0x00) ∷ []))
 
 -- call 6, lib.rs: read_range_mm
 abbrev pub read_range_mm_call : Program
-read_range_mm_call = ranging (Instruction.ReadStatus ∷ [])
+read_range_mm_call = ranging 4 (Instruction.ReadStatus ∷ [])
 
 -- call 7, lib.rs: read_range_continuous_millimeters_blocking
 abbrev pub read_range_continuous_call : Program
-read_range_continuous_call = ranging (Instruction.AwaitStatus ∷ [])
+read_range_continuous_call = ranging 10003 (Instruction.Await Condition.StatusReady ∷ [])
 
 -- call 8, lib.rs: read_range_single_millimeters_blocking
 abbrev pub read_range_single_call : Program
-read_range_single_call = ranging (preparation ++ Instruction.Write 0x80 0x00 ∷ Instruction.Write 0x00 0x01 ∷ Instruction.AwaitStart ∷ Instruction.AwaitStatus ∷ [])
+read_range_single_call =
+    ranging 20011
+    (preparation ++ Instruction.Write 0x80 0x00 ∷ Instruction.Write 0x00 0x01 ∷ Instruction.Await Condition.Started ∷ Instruction.Await Condition.StatusReady ∷ [])
 
 -- call 9, lib.rs: set_measurement_timing_budget
 abbrev pub set_budget_call : Program
 set_budget_call =
     record {
+      greatest_a = 4294967295;
+      greatest_b = 0;
+      ceiling = 7;
       entry = λ c. test (too_short c.a) (stop declines) onward;
-      steps = budget_steps timing_slot;
+      steps = budget_steps timing_slot Setting.Asked;
       final = λ c. success 0 (with_driver_budget c.driver c.a);
     }
-
-abbrev pub by_thresholds : Result Unit InvalidArgument → Verdict
-by_thresholds (Ok u) = onward
-by_thresholds (Err e) = stop wrong_argument
 
 -- call 10, lib.rs: set_interrupt_thresholds_mm
 abbrev pub set_thresholds_call : Program
 set_thresholds_call =
     record {
-      entry = λ c. by_thresholds (check_thresholds (record { 0 = c.a }) (record { 0 = c.b }));
+      greatest_a = 65535;
+      greatest_b = 65535;
+      ceiling = 2;
+      entry = λ c. test (is_err (check_thresholds (record { 0 = low_in c }) (record { 0 = c.b }))) (stop wrong_argument) onward;
       steps = Instruction.WriteLow ∷ Instruction.WriteHigh ∷ [];
       final = finishes (λ c. 0);
     }
@@ -198,34 +239,45 @@ set_thresholds_call =
 -- call 11, lib.rs: get_interrupt_thresholds_mm. SCOPE 5.1: low × 65536 + high
 abbrev pub get_thresholds_call : Program
 get_thresholds_call =
-    valued
+    valued 2
     (Instruction.ReadWord 0x0E timing_slot ∷ Instruction.ReadWord 0x0C (timing_slot + 2) ∷ [])
     (λ c. (decode_threshold (record { 0 = slot_word timing_slot c })).0 * 65536 + (decode_threshold (record { 0 = slot_word (timing_slot + 2) c })).0)
 
 -- call 12, lib.rs: set_gpio_config (SCOPE 5.10)
 abbrev pub set_gpio_config_call : Program
-set_gpio_config_call = plain (gpio_steps Instruction.WriteFunction Instruction.WritePolarity)
+set_gpio_config_call =
+    record {
+      greatest_a = 3;
+      greatest_b = 1;
+      ceiling = 5;
+      entry = pass;
+      steps = gpio_steps Instruction.WriteFunction Instruction.WritePolarity;
+      final = finishes (λ c. 0);
+    }
 
 -- call 13, lib.rs: clear_interrupt_status
 abbrev pub clear_interrupt_status_call : Program
-clear_interrupt_status_call = plain clearing
-
-abbrev pub by_rate : Option ℕ → Verdict
-by_rate (Some w) = onward
-by_rate None = stop declines
+clear_interrupt_status_call = plain 2 clearing
 
 -- call 14, lib.rs: set_signal_rate_limit
 abbrev pub set_signal_rate_limit_call : Program
 set_signal_rate_limit_call =
-    record { entry = λ c. by_rate (signal_rate_limit_word c.a); steps = Instruction.WriteRate ∷ []; final = finishes (λ c. 0) }
+    record {
+      greatest_a = 4294967295;
+      greatest_b = 0;
+      ceiling = 1;
+      entry = λ c. test (is_none (signal_rate_limit_word c.a)) (stop declines) onward;
+      steps = Instruction.WriteRate ∷ [];
+      final = finishes (λ c. 0);
+    }
 
 -- call 15, lib.rs: get_measurement_timing_budget
 abbrev pub get_budget_call : Program
-get_budget_call = valued budget_reads (λ c. c.own)
+get_budget_call = valued 6 budget_reads (λ c. c.found_budget)
 
 -- for codes that are no call
 abbrev pub nothing : Program
-nothing = record { entry = pass; steps = []; final = λ c. failure 0 }
+nothing = record { greatest_a = 0; greatest_b = 0; ceiling = 0; entry = pass; steps = []; final = λ c. failure 0 }
 
 -- by code; no call has the code 0. `new` is call 1 at the address `default_address`
 unfoldable pub programs : List Program
@@ -240,25 +292,14 @@ program_of code = get_or programs code nothing
 abbrev pub default_address : ℕ
 default_address = 0x29
 
--- SCOPE 7.2: the codes are 1 to 15
+-- SCOPE 7.2: the codes are those of the calls, from 1 on
 abbrev pub top_code : ℕ
-top_code = 15
+top_code = length programs - 1
 
--- SCOPE 5.1: by code, the ceiling of transfers
-unfoldable pub ceilings : List ℕ
-ceilings = 0 ∷ 85688 ∷ 1 ∷ 1 ∷ 10 ∷ 6 ∷ 4 ∷ 10003 ∷ 20011 ∷ 7 ∷ 2 ∷ 2 ∷ 5 ∷ 2 ∷ 1 ∷ 6 ∷ []
-
+-- SCOPE 5.1, by code; an argument that is not used is 0
 unfoldable pub ceiling_of : ℕ → ℕ
-ceiling_of code = get_or ceilings code 0
-
--- SCOPE 5.1: by code, the greatest A and B; an argument that is not used is 0
-unfoldable pub greatest : List (ℕ × ℕ)
-greatest =
-    (0, 0) ∷ (255, 0) ∷ (0, 0) ∷ (255, 0) ∷ (4294967295, 0) ∷ (0, 0) ∷ (0, 0) ∷ (0, 0) ∷ (0, 0) ∷ (4294967295, 0) ∷ (65535, 65535)
-    ∷ (0, 0) ∷ (3, 1) ∷ (0, 0) ∷ (4294967295, 0) ∷ (0, 0) ∷ []
-
-abbrev pub greatest_of : ℕ → ℕ × ℕ
-greatest_of code = get_or greatest code (0, 0)
+ceiling_of code = (program_of code).ceiling
 
 unfoldable pub arguments_ok : ℕ → ℕ → ℕ → Bool
-arguments_ok code a b = (leb 1 code && leb code top_code) && (leb a (greatest_of code).0 && leb b (greatest_of code).1)
+arguments_ok code a b =
+    (leb 1 code && leb code top_code) && (leb a (program_of code).greatest_a && leb b (program_of code).greatest_b)

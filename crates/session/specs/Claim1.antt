@@ -4,9 +4,9 @@ use Rattle.std.specs.Prelude.{◌≡◌, Bool, true, false, ◌||◌, cond, List
 use Rattle.std.proofs.Math.Option.{Option, some, none}
 use Rattle.session.specs.Bus.{Transfer, Answer, byte, bytes_of, zero_from, number_of, values_of, absent}
 use Rattle.session.specs.Machine.{Session, Outcome, sent, answered, refused, broken, resting, outstanding, ill_formed}
-use Rattle.session.specs.Records.{Record, call, records_of, step_def}
+use Rattle.session.specs.Records.{Record, call, records_of}
 use Rattle.session.specs.Refusals.{refusals, first_match, Underway, at_once, first_answer}
-use Rattle.session.specs.History.{Entry, calls_in, answers_in, replies_in, transfers_in, refused_in, Run, session_after, Genuine, in_order}
+use Rattle.session.specs.History.{step_def, Entry, Run, stopped, completed, session_after, Genuine, in_order}
 
 -- SCOPE 4.1: 1 to 7 bytes to be written, and a read length of 0, 1, 2 or 6
 abbrev pub is_length : ℕ → Bool
@@ -25,9 +25,9 @@ pub record Says (address : ℕ) (bytes : List ℕ) (reads : ℕ) (t : Transfer) 
   pub bytes_written : bytes_of t ≡ bytes
   pub then_read : t.reads ≡ reads
 
--- a bring-up speaks to the address of its record, every other call to the session's
+-- a bring-up speaks to the address of its record, which is one byte, every other call to the session's
 abbrev pub chip_address : Session → ℕ
-chip_address s = cond (eqb s.code 1) s.a s.driver.address
+chip_address s = cond (eqb s.code 1) (s.a % 256) s.driver.address
 
 -- what an outcome is: a transfer that the session then has out, an answer 0 to 8 that leaves nothing carried,
 -- or a refusal 9 to 13 or 15 that keeps the session
@@ -84,27 +84,12 @@ LeavesNone (answered x n s) = eqb (number_of x) 0 ≡ false → s.driver ≡ abs
 LeavesNone (refused x s) = Unit {0}
 LeavesNone (broken s) = Unit {0}
 
--- SCOPE 8.2: 14 and 15 end the run with the session as it was given and all counts 0
-abbrev pub ended_at_once : Answer → Session → Run
-ended_at_once x s =
-    record { answer = x; session = s; counts = record { calls = 0; answers = 0; replies = 0; transfers = 0; refused = 0 }; history = [] }
-
--- SCOPE 8.1: at the end stand answer 0, the session and the five counts
-abbrev pub completed : Session → List Entry → Run
-completed s h =
-    record {
-      answer = Answer.Done 0;
-      session = s;
-      counts = record { calls = calls_in h; answers = answers_in h; replies = replies_in h; transfers = transfers_in h; refused = refused_in h };
-      history = h;
-    }
-
 -- a slice of records, from any session. 14 for spare bytes; 15 if the session is ill-formed at the start or where a record meets it;
 -- else every record has what it gets
 pub data RunEnds (s : Session) (bytes : List ℕ) : Run → Type 0 where
-  spare_bytes : (length bytes % 8 ≡ 0 → ⊥) → RunEnds s bytes (ended_at_once Answer.SpareBytes s)
-  ill_formed_given : length bytes % 8 ≡ 0 → ill_formed s ≡ true → RunEnds s bytes (ended_at_once Answer.IllFormedSession s)
+  spare_bytes : (length bytes % 8 ≡ 0 → ⊥) → RunEnds s bytes (stopped Answer.SpareBytes s)
+  ill_formed_given : length bytes % 8 ≡ 0 → ill_formed s ≡ true → RunEnds s bytes (stopped Answer.IllFormedSession s)
   ill_formed_met : length bytes % 8 ≡ 0 → (h : List Entry) (r : Record) (rest : List Record) → in_order h (r ∷ rest) ≡ records_of bytes
-      → Genuine s h → ill_formed (session_after s h) ≡ true → RunEnds s bytes (ended_at_once Answer.IllFormedSession s)
+      → Genuine s h → ill_formed (session_after s h) ≡ true → RunEnds s bytes (stopped Answer.IllFormedSession s)
   all_run : length bytes % 8 ≡ 0 → ill_formed s ≡ false → (h : List Entry) → in_order h [] ≡ records_of bytes → Genuine s h
       → RunEnds s bytes (completed (session_after s h) h)

@@ -3,11 +3,11 @@
 use Rattle.std.specs.Prelude.{◌≡◌, true, List, [], ◌∷◌, ℕ}
 use Rattle.session.specs.Bus.{Answer}
 use Rattle.session.specs.Machine.{Session, Outcome, sent, answered, refused, broken}
-use Rattle.session.specs.Records.{call, reply, step_def}
-use Rattle.session.specs.Refusals.{ranges, in_range}
+use Rattle.session.specs.Records.{call, reply}
+use Rattle.session.specs.Refusals.{call_rows, in_range}
 use Rattle.session.specs.Script.{Raw, data_of, Trace, sends, refuses, waits, ends, play}
 use Rattle.session.specs.RustBringUp.{rust}
-use Rattle.session.specs.History.{session_of}
+use Rattle.session.specs.History.{step_def, session_of}
 
 -- the session is up, or the call is a bring-up
 pub data Ready (s : Session) : ℕ → Type 0 where
@@ -17,7 +17,7 @@ pub data Ready (s : Session) : ℕ → Type 0 where
 -- no call waits, the arguments are in range, and the session is up but for a bring-up
 pub record Accepted (s : Session) (code a b : ℕ) : Type 0 where
   pub none_waiting : s.code ≡ 0
-  pub arguments : in_range code a b ranges ≡ true
+  pub arguments : in_range code a b call_rows ≡ true
   pub ready : Ready s code
 
 -- what is seen of an outcome, before what comes after

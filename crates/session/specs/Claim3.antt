@@ -1,12 +1,16 @@
 -- Demand 3 (SCOPE 1.3): what holds of every list of records that is run from a fresh session. What it says of the calls is read off the bus:
 -- from a call's code, the bytes written, the read length, the replies and their order. Exchanges stand newest first.
 use Rattle.std.specs.Prelude.{◌≡◌, Bool, true, false, ◌||◌, ◌&&◌, cond, List, [], ◌∷◌, ℕ, zero, suc, ◌+◌, ◌*◌, ◌%◌, ◌≤◌, eqb, T, length, get_or}
-use Rattle.session.specs.Bus.{Driver, Transfer, Answer, byte, bytes_of, Reply, bad, good, failure_in, data_in, Condition, detector_ready, status_ready, started, number_of, values_of, absent, with_driver_address, with_driver_budget}
+use Rattle.session.specs.Bus.{Driver, Transfer, Answer, byte, bytes_of, Reply, bad, good, failure_in, data_in, Condition, number_of, values_of, absent, with_driver_address, with_driver_budget}
 use Rattle.session.specs.Machine.{fresh_session}
 use Rattle.session.specs.Records.{records_of}
 use Rattle.session.specs.Script.{Raw, Trace, sends, refuses, waits, ends, play}
 use Rattle.session.specs.RustBringUp.{rust}
 use Rattle.session.specs.History.{calls_in, answers_in, replies_in, transfers_in, refused_in, Run, session_after, Genuine, in_order, Exchange, by, Standing, waiting, ended, CallRun, calls_of, is_waiting, waiting_in, transfers_of}
+
+-- the exchanges of a call, newest first, that its laws go by: all of them
+abbrev pub exchanges_of : CallRun → List Exchange
+exchanges_of c = c.exchanges
 
 abbrev pub bytes_are : List ℕ → List ℕ → Bool
 bytes_are [] [] = true
@@ -34,9 +38,9 @@ floor_in code = get_or (0 ∷ 149 ∷ 1 ∷ 1 ∷ 8 ∷ 6 ∷ 4 ∷ 4 ∷ 13 ∷
 -- TIMEOUT. A call was answered Timeout exactly if its last accepted replies, 65,535 for the detector wait and 10,000 for the others, were all idle
 -- reads of that wait (SCOPE 4.2).
 unfoldable pub limit_in : ℕ → Condition → ℕ
-limit_in code detector_ready = 65535
-limit_in code status_ready = 10000
-limit_in code started = 10000
+limit_in code Condition.DetectorReady = 65535
+limit_in code Condition.StatusReady = 10000
+limit_in code Condition.Started = 10000
 
 -- the last transfer that is no read of 0x83 is the write 83 00
 abbrev pub awaited : List Exchange → Bool
@@ -52,15 +56,15 @@ awaits_start code = eqb code 8
 
 -- a transfer, after the exchanges es of its call, is a read of a wait: the plain reads of 0x83 in a bring-up and of 0x13 in call 6 are none
 abbrev pub read_of : Condition → ℕ → Transfer → List Exchange → Bool
-read_of detector_ready code t es = (asks 0x83 t && eqb code 1) && awaited es
-read_of status_ready code t es = asks 0x13 t && awaits_status code
-read_of started code t es = asks 0x00 t && awaits_start code
+read_of Condition.DetectorReady code t es = (asks 0x83 t && eqb code 1) && awaited es
+read_of Condition.StatusReady code t es = asks 0x13 t && awaits_status code
+read_of Condition.Started code t es = asks 0x00 t && awaits_start code
 
 -- SCOPE 4.2: a read of a wait is idle if its reply is no failure and the condition is not met; a failed read is not idle
 unfoldable pub unmet : Condition → List ℕ → Bool
-unmet detector_ready bs = eqb (byte 0 bs) 0
-unmet status_ready bs = eqb (byte 0 bs % 8) 0
-unmet started bs = eqb (byte 0 bs % 2) 1
+unmet Condition.DetectorReady bs = eqb (byte 0 bs) 0
+unmet Condition.StatusReady bs = eqb (byte 0 bs % 8) 0
+unmet Condition.Started bs = eqb (byte 0 bs % 2) 1
 
 abbrev pub idle_reply : Condition → Reply → Bool
 idle_reply x (bad e) = false
@@ -81,8 +85,8 @@ is_timeout (ended x n) = eqb (number_of x) 4
 
 abbrev pub TimeoutRule : CallRun → Type 0
 TimeoutRule c =
-    (T (is_timeout c.standing) → LimitReached c.code c.exchanges)
-    × (LimitReached c.code c.exchanges → T (is_timeout c.standing))
+    (T (is_timeout c.standing) → LimitReached c.code (exchanges_of c))
+    × (LimitReached c.code (exchanges_of c) → T (is_timeout c.standing))
 
 -- FAILURE. A failed transfer ended its call at once, unless it was a range read: then the call went on to clear the interrupt, as far as the list
 -- has replies for it, and did nothing else.
@@ -141,7 +145,7 @@ Failures code later [] st = Unit {0}
 Failures code later (e ∷ es) st = AfterReply code e.sent e.reply later es st × Failures code (e ∷ later) es st
 
 abbrev pub FailureRule : CallRun → Type 0
-FailureRule c = Failures c.code [] c.exchanges c.standing
+FailureRule c = Failures c.code [] (exchanges_of c) c.standing
 
 -- FIELDS. Whether the session is up, its address, its stop byte and its budget are what SCOPE 6 derives from the history.
 -- the register has been read among the exchanges, and the data of the first reply to that
@@ -212,7 +216,7 @@ is_up (c ∷ cs) = cond (eqb c.code 1) (is_done c.standing) (is_up cs)
 abbrev pub driver_of : List CallRun → Driver
 driver_of [] = absent
 driver_of (c ∷ cs) =
-    cond (is_up (c ∷ cs)) (cond (is_done c.standing) (after_done c.code c.a c.exchanges (driver_of cs)) (driver_of cs)) absent
+    cond (is_up (c ∷ cs)) (cond (is_done c.standing) (after_done c.code c.a (exchanges_of c) (driver_of cs)) (driver_of cs)) absent
 
 -- every accepted call other than a bring-up was begun while up
 abbrev pub BegunUp : List CallRun → Type 0
@@ -223,19 +227,32 @@ abbrev pub All : {A : Type 0} → (A → Type 0) → List A → Type 0
 All P [] = Unit {0}
 All P (c ∷ cs) = P c × All P cs
 
+-- what the demand says of one call
+pub record Lawful (c : CallRun) : Type 0 where
+  pub ceiling : transfers_of c ≤ ceiling_in c.code
+  pub timeout : TimeoutRule c
+  pub failure : FailureRule c
+
+-- SCOPE 1.3, of a run from a fresh session
+pub record Demand3 (run : Run) : Type 0 where
+  -- sum: transfers = accepted replies + waiting calls
+  pub sum : transfers_in run.history ≡ replies_in run.history + waiting_in (calls_of run.history)
+  -- ceiling, timeout, failure: of each call
+  pub calls : All Lawful (calls_of run.history)
+  -- fields
+  pub up : run.session.driver.up ≡ is_up (calls_of run.history)
+  pub fields : run.session.driver ≡ driver_of (calls_of run.history)
+
+-- BEYOND THE DEMAND.
 -- the figure that stands with a call's answer is the number of its transfers
 abbrev pub FigureRule : CallRun → Standing → Type 0
 FigureRule c (waiting t) = Unit {0}
 FigureRule c (ended x n) = n ≡ transfers_of c
 
--- the laws of one call
-pub record Lawful (c : CallRun) : Type 0 where
-  pub ceiling : transfers_of c ≤ ceiling_in c.code
-  pub timeout : TimeoutRule c
-  pub failure : FailureRule c
-  -- beyond the demand: the figure of the answer, call 15's value, and Done is not answered early
+-- more of one call: the figure of its answer, call 15's value, and Done is not answered early
+pub record LawfulBeyond (c : CallRun) : Type 0 where
   pub figure : FigureRule c c.standing
-  pub value : is_done c.standing ≡ true → c.code ≡ 15 → values_in c.standing ≡ budget_of_first c.exchanges ∷ []
+  pub value : is_done c.standing ≡ true → c.code ≡ 15 → values_in c.standing ≡ budget_of_first (exchanges_of c) ∷ []
   pub floor : is_done c.standing ≡ true → floor_in c.code ≤ transfers_of c
 
 abbrev pub sum_of : (CallRun → ℕ) → List CallRun → ℕ
@@ -250,15 +267,8 @@ abbrev pub of_waiting : (CallRun → ℕ) → List CallRun → ℕ
 of_waiting f [] = 0
 of_waiting f (c ∷ cs) = cond (eqb (is_waiting c.standing) 1) (f c) 0
 
-pub record Demand3 (bytes : List ℕ) (run : Run) : Type 0 where
-  -- sum: transfers = accepted replies + waiting calls
-  pub sum : transfers_in run.history ≡ replies_in run.history + waiting_in (calls_of run.history)
-  -- ceiling, timeout, failure: the laws of each call
-  pub calls : All Lawful (calls_of run.history)
-  -- fields
-  pub up : run.session.driver.up ≡ is_up (calls_of run.history)
-  pub fields : run.session.driver ≡ driver_of (calls_of run.history)
-  pub absent_while_down : is_up (calls_of run.history) ≡ false → run.session.driver ≡ absent
+-- what ties the run to its list, and more of its history and its session
+pub record Beyond3 (bytes : List ℕ) (run : Run) : Type 0 where
   -- the run goes through all records and never meets 15; spare bytes are 14
   pub answer : run.answer ≡ cond (eqb (length bytes % 8) 0) (Answer.Done 0) Answer.SpareBytes
   pub records : in_order run.history [] ≡ cond (eqb (length bytes % 8) 0) (records_of bytes) []
@@ -283,11 +293,18 @@ pub record Demand3 (bytes : List ℕ) (run : Run) : Type 0 where
   pub heard : replies_in run.history ≡ sum_of replies_of (calls_of run.history)
   pub one : waiting_in (calls_of run.history) ≤ 1
   pub begun_up : BegunUp (calls_of run.history)
+  pub calls : All LawfulBeyond (calls_of run.history)
+  pub absent_while_down : is_up (calls_of run.history) ≡ false → run.session.driver ≡ absent
   -- what the session says of the call that waits
   pub code : run.session.code ≡ of_waiting (λ c. c.code) (calls_of run.history)
   pub a : run.session.a ≡ of_waiting (λ c. c.a) (calls_of run.history)
   pub b : run.session.b ≡ of_waiting (λ c. c.b) (calls_of run.history)
   pub transfers : run.session.transfers ≡ of_waiting transfers_of (calls_of run.history)
+
+-- the demand of the run of a list, with what is beyond it
+pub record Both3 (bytes : List ℕ) (run : Run) : Type 0 where
+  pub demand : Demand3 run
+  pub beyond : Beyond3 bytes run
 
 -- in other words: the last n exchanges of a call are there, and each is an idle read of the wait
 abbrev pub LastIdle : ℕ → Condition → ℕ → List Exchange → Type 0

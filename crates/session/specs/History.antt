@@ -1,9 +1,15 @@
--- The run over a list of records, its history and counts, and the calls of a history with their exchanges.
+-- What one record gives a session, the run over a list of records, its history and counts, and the calls of a history with their exchanges.
 -- SCOPE 8. Lists of the history stand newest first.
 use Rattle.std.specs.Prelude.{cond, false, List, [], ◌∷◌, ℕ, ◌+◌, length, ◌≡◌}
 use Rattle.session.specs.Bus.{Transfer, Answer, Reply}
-use Rattle.session.specs.Machine.{Session, Outcome, sent, answered, refused, broken, to_reply, ill_formed}
-use Rattle.session.specs.Records.{Record, call, reply, other, records_of, is_whole, step_def}
+use Rattle.session.specs.Machine.{Session, Outcome, sent, answered, refused, broken, to_reply, ill_formed, reply_def, begin_def, other_def}
+use Rattle.session.specs.Records.{Record, call, reply, other, records_of, is_whole}
+
+-- one record meets one session
+unfoldable pub step_def : Session → Record → Outcome
+step_def s (call code a b) = begin_def s code a b
+step_def s (reply f bs) = reply_def s f bs
+step_def s other = other_def s
 
 -- SCOPE 8.3: the history is the records in order, each with what it got: one transfer, its call's answer, or a refusal.
 -- An answer stands with the transfers that its call made
@@ -90,6 +96,10 @@ pub record Run : Type 0 where
 abbrev pub stopped : Answer → Session → Run
 stopped x s = record { answer = x; session = s; counts = counts_of []; history = [] }
 
+-- SCOPE 8.1: at the end of the list stand answer 0, the session and the five counts
+abbrev pub completed : Session → List Entry → Run
+completed s h = record { answer = Answer.Done 0; session = s; counts = counts_of h; history = h }
+
 abbrev pub taking : Outcome → Session → List Entry → Record → (Session → List Entry → Run) → Run
 taking (sent t s) given h r k = k s (record { what = r; got = transfer t } ∷ h)
 taking (answered x n s) given h r k = k s (record { what = r; got = answer x n } ∷ h)
@@ -98,7 +108,7 @@ taking (broken s) given h r k = stopped Answer.IllFormedSession given
 
 -- SCOPE 8.1: each record meets the session that the one before it left. SCOPE 8.2: 15 met anywhere gives back the session given to the run
 unfoldable pub run_from : Session → List Record → Session → List Entry → Run
-run_from given [] s h = record { answer = Answer.Done 0; session = s; counts = counts_of h; history = h }
+run_from given [] s h = completed s h
 run_from given (r ∷ rs) s h = taking (step_def s r) given h r (run_from given rs)
 
 -- the session is looked at before any record, so also where the list is empty

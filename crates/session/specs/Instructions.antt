@@ -18,7 +18,7 @@ pub record Context : Type 0 where
   pub a : ℕ
   pub b : ℕ
   pub failed : ℕ
-  pub own : ℕ
+  pub found_budget : ℕ
   pub carried : List ℕ
 
 -- the answers that a good reply, or the arguments of a call, can end a call with
@@ -48,11 +48,12 @@ pub data Verdict : Type 0 where
 pub data Op : Type 0 where
   -- register, the bytes after it, bytes read back, instructions that a leap leaves out, what a good reply decides
   write : ℕ → (Context → List ℕ) → ℕ → ℕ → (Context → Verdict) → Op
-  -- register, length, slot of the bytes, instructions that a leap leaves out, what a good reply decides
-  read : ℕ → ℕ → ℕ → ℕ → (Context → Verdict) → Op
+  -- register, length, slot of the bytes, whether it finds the budget, instructions that a leap leaves out, what a good reply decides
+  read : ℕ → ℕ → ℕ → Bool → ℕ → (Context → Verdict) → Op
   wait : Condition → Op
-  -- SCOPE 5.8: after a failed range read the interrupt is cleared all the same: the failure is kept, and the call goes on
-  range : Op
+  -- SCOPE 5.8: after a failed range read the interrupt is cleared all the same: the failure is kept, and the call goes on.
+  -- Register, length, slot of the bytes, instructions that a failed one leaves out
+  range : ℕ → ℕ → ℕ → ℕ → Op
 
 -- how a call ends after its last instruction
 pub data Final : Type 0 where
@@ -102,33 +103,33 @@ budget_in k carried = (time_in (measurement_timing_budget (timing_in k carried))
 
 abbrev pub send_of : Op → Context → Transfer
 send_of (write reg bytes n over after) c = transfer_of c.address (reg ∷ bytes c) n
-send_of (read reg n slot over after) c = transfer_of c.address (reg ∷ []) n
+send_of (read reg n slot finds over after) c = transfer_of c.address (reg ∷ []) n
 send_of (wait x) c = transfer_of c.address (wait_register x ∷ []) 1
-send_of range c = transfer_of c.address (0x1E ∷ []) 2
+send_of (range reg n slot over) c = transfer_of c.address (reg ∷ []) n
 
 -- what is kept of a reply: bytes, and the failure code of the range read
 abbrev pub kept_bytes : Op → Reply → List ℕ → List ℕ
 kept_bytes (write reg bytes n over after) r carried = carried
-kept_bytes (read reg n slot over after) (bad e) carried = carried
-kept_bytes (read reg n slot over after) (good bs) carried = put carried slot (bytes_from 0 n bs)
+kept_bytes (read reg n slot finds over after) (bad e) carried = carried
+kept_bytes (read reg n slot finds over after) (good bs) carried = put carried slot (bytes_from 0 n bs)
 kept_bytes (wait x) r carried = carried
-kept_bytes range (bad e) carried = carried
-kept_bytes range (good bs) carried = put carried range_slot (bytes_from 0 2 bs)
+kept_bytes (range reg n slot over) (bad e) carried = carried
+kept_bytes (range reg n slot over) (good bs) carried = put carried slot (bytes_from 0 n bs)
 
 abbrev pub kept_failure : Op → Reply → ℕ → ℕ
 kept_failure (write reg bytes n over after) r failed = failed
-kept_failure (read reg n slot over after) r failed = failed
+kept_failure (read reg n slot finds over after) r failed = failed
 kept_failure (wait x) r failed = failed
-kept_failure range (bad e) failed = suc e
-kept_failure range (good bs) failed = 0
+kept_failure (range reg n slot over) (bad e) failed = suc e
+kept_failure (range reg n slot over) (good bs) failed = 0
 
--- the budget, once the last of the first six budget replies is kept
+-- the budget, at the read that finds it: what call 15 gives for the eight bytes from the first budget slot on
 abbrev pub kept_budget : Op → Reply → List ℕ → ℕ → ℕ
-kept_budget (write reg bytes n over after) r carried own = own
-kept_budget (read reg n slot over after) (bad e) carried own = own
-kept_budget (read reg n slot over after) (good bs) carried own = cond (eqb slot (timing_slot + 7)) (budget_in timing_slot (put carried slot (bytes_from 0 n bs))) own
-kept_budget (wait x) r carried own = own
-kept_budget range r carried own = own
+kept_budget (write reg bytes n over after) r carried found_budget = found_budget
+kept_budget (read reg n slot finds over after) (bad e) carried found_budget = found_budget
+kept_budget (read reg n slot finds over after) (good bs) carried found_budget = cond finds (budget_in timing_slot (put carried slot (bytes_from 0 n bs))) found_budget
+kept_budget (wait x) r carried found_budget = found_budget
+kept_budget (range reg n slot over) r carried found_budget = found_budget
 
 -- SCOPE 5.8: if the clearing fails too, call 6 reports the read's code, calls 7 and 8 the clearing's
 abbrev pub read_wins : ℕ → Bool
@@ -143,9 +144,9 @@ report_of true (suc k) e = suc k
 -- the most transfers that the instructions of a call can make
 abbrev pub cost_of : ℕ → Op → ℕ
 cost_of code (write reg bytes n over after) = 1
-cost_of code (read reg n slot over after) = 1
+cost_of code (read reg n slot finds over after) = 1
 cost_of code (wait x) = wait_limit code x
-cost_of code range = 1
+cost_of code (range reg n slot over) = 1
 
 abbrev pub worst : ℕ → List Op → ℕ
 worst code [] = 0

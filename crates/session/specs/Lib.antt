@@ -1,10 +1,5 @@
--- in reading order: the bus, the calls, the machine
+-- In the order of belief. First what a reader has to believe: the bus, records of bytes, and the table of refusals
 pub mod Bus
-pub mod Instructions
-pub mod Steps
-pub mod Calls
-pub mod Machine
--- records of bytes, and the table of refusals
 pub mod Records
 pub mod Refusals
 -- the Rust as a script
@@ -14,15 +9,25 @@ pub mod RustFn
 pub mod RustClocks
 pub mod RustCalls
 pub mod RustBringUp
--- runs and their history
+-- runs and their history. From the machine below these and the demands have what a record gives a session, and names for a fresh session, one at
+-- rest, an ill-formed one and the transfer that is out
 pub mod History
--- the three demands
+-- and the three demands
 pub mod Claim1
 pub mod Claim2
 pub mod Claim3
--- what holds of every session that is handed in
+-- Then the machine, which the code meets and the demands pin down: instructions, their meaning, the calls as lists of them, what a call and a reply
+-- do to a session, and that as the code returns it
+pub mod Instructions
+pub mod Steps
+pub mod Calls
+pub mod Machine
+pub mod Given
+-- Then what is beyond the demands: what holds of every session that is handed in
 pub mod Parts
 pub mod AnySession
+-- call 9 whole, from its budget and its replies
+pub mod SetBudget
 -- waits over any limit, and values
 pub mod AnyLimit
 pub mod Bench

@@ -1,5 +1,5 @@
 -- The session, and what each call and each reply gives it: a transfer, an answer or a refusal. SCOPE 9.1, in its order.
-use Rattle.std.specs.Prelude.{Bool, true, false, not, ◌||◌, ◌&&◌, cond, List, [], ◌∷◌, ℕ, zero, suc, ◌+◌, eqb, ltb, leb, drop, replicate}
+use Rattle.std.specs.Prelude.{Bool, true, false, not, ◌||◌, ◌&&◌, cond, List, [], ◌∷◌, ℕ, zero, suc, ◌+◌, ◌%◌, eqb, ltb, leb, length, drop, replicate}
 pub use Rattle.session.specs.declared.Session.{Session}
 use Rattle.session.specs.Bus.{Driver, Transfer, transfer_of, Answer, Reply, bad, good, Condition, wait_limit, idle_on, absent}
 use Rattle.session.specs.Instructions.{Context, stop_answer, Verdict, onward, leap, stop, test, Op, write, read, wait, range, Final, success, failure, send_of, kept_bytes, kept_failure, kept_budget, read_wins, report_of}
@@ -17,9 +17,46 @@ pub data Outcome : Type 0 where
 abbrev pub zeros : List ℕ
 zeros = replicate 24 0
 
+-- a call that has made no transfer yet, with its code and its arguments; the code 0 is none
+abbrev pub calling : Driver → ℕ → ℕ → ℕ → Session
+calling d code a b =
+    record { driver = d; code = code; a = a; b = b; step = 0; idle = 0; transfers = 0; failed = 0; found_budget = 0; carried = zeros }
+
+-- the same call elsewhere: at a step, after so many idle reads there, with so many transfers made
+abbrev pub with_place : ℕ → ℕ → ℕ → Session → Session
+with_place step idle transfers s =
+    record {
+      driver = s.driver;
+      code = s.code;
+      a = s.a;
+      b = s.b;
+      step = step;
+      idle = idle;
+      transfers = transfers;
+      failed = s.failed;
+      found_budget = s.found_budget;
+      carried = s.carried;
+    }
+
+-- the same call with other things kept of its replies
+abbrev pub with_kept : ℕ → ℕ → List ℕ → Session → Session
+with_kept failed found_budget carried s =
+    record {
+      driver = s.driver;
+      code = s.code;
+      a = s.a;
+      b = s.b;
+      step = s.step;
+      idle = s.idle;
+      transfers = s.transfers;
+      failed = failed;
+      found_budget = found_budget;
+      carried = carried;
+    }
+
 -- SCOPE 9.3: at an answer all that a call carried becomes zero
 abbrev pub resting : Driver → Session
-resting d = record { driver = d; code = 0; a = 0; b = 0; step = 0; idle = 0; transfers = 0; failed = 0; own = 0; carried = zeros }
+resting d = calling d 0 0 0
 
 -- SCOPE 2.2: a fresh session is not up, no call waits in it, and all else is zero
 abbrev pub fresh_session : Session
@@ -27,7 +64,7 @@ fresh_session = resting absent
 
 -- a bring-up's transfers go to its own address
 abbrev pub address_of : ℕ → ℕ → Driver → ℕ
-address_of code a d = cond (eqb code 1) a d.address
+address_of code a d = cond (eqb code 1) (a % 256) d.address
 
 -- the fields that a call leaves if it does not succeed: a bring-up leaves none, also one that was handed in with some
 abbrev pub held_by : ℕ → Driver → Driver
@@ -42,41 +79,17 @@ context_of s =
       a = s.a;
       b = s.b;
       failed = s.failed;
-      own = s.own;
+      found_budget = s.found_budget;
       carried = s.carried;
     }
 
 -- the session with what is kept of a reply
 abbrev pub kept_of : Session → Op → Reply → Session
-kept_of s op r =
-    record {
-      driver = s.driver;
-      code = s.code;
-      a = s.a;
-      b = s.b;
-      step = s.step;
-      idle = s.idle;
-      transfers = s.transfers;
-      failed = kept_failure op r s.failed;
-      own = kept_budget op r s.carried s.own;
-      carried = kept_bytes op r s.carried;
-    }
+kept_of s op r = with_kept (kept_failure op r s.failed) (kept_budget op r s.carried s.found_budget) (kept_bytes op r s.carried) s
 
 -- one transfer more, at step k, after i idle reads there
 abbrev pub sending : ℕ → ℕ → Session → Session
-sending k i s =
-    record {
-      driver = s.driver;
-      code = s.code;
-      a = s.a;
-      b = s.b;
-      step = k;
-      idle = i;
-      transfers = s.transfers + 1;
-      failed = s.failed;
-      own = s.own;
-      carried = s.carried;
-    }
+sending k i s = with_place k i (s.transfers + 1) s
 
 abbrev pub answering : Answer → Driver → Session → Outcome
 answering x d s = answered x s.transfers (resting d)
@@ -116,13 +129,13 @@ wait_read limit x p s bs =
 abbrev pub react : Op → Program → Session → Reply → Outcome
 react (write reg bytes len over after) p s (bad e) = giving (Answer.BusError (report_of (read_wins s.code) s.failed (suc e))) s
 react (write reg bytes len over after) p s (good bs) = decide (after (context_of s)) p over (suc s.step) s
-react (read reg len slot over after) p s (bad e) = giving (Answer.BusError (suc e)) s
-react (read reg len slot over after) p s (good bs) =
-    decide (after (context_of (kept_of s (read reg len slot over after) (good bs)))) p over (suc s.step) (kept_of s (read reg len slot over after) (good bs))
+react (read reg len slot finds over after) p s (bad e) = giving (Answer.BusError (suc e)) s
+react (read reg len slot finds over after) p s (good bs) =
+    decide (after (context_of (kept_of s (read reg len slot finds over after) (good bs)))) p over (suc s.step) (kept_of s (read reg len slot finds over after) (good bs))
 react (wait x) p s (bad e) = giving (Answer.BusError (suc e)) s
 react (wait x) p s (good bs) = wait_read (wait_limit s.code x) x p s bs
-react range p s (bad e) = arrive p (suc s.step) (kept_of s range (bad e))
-react range p s (good bs) = arrive p (suc s.step) (kept_of s range (good bs))
+react (range reg len slot over) p s (bad e) = arrive p (suc s.step + over) (kept_of s (range reg len slot over) (bad e))
+react (range reg len slot over) p s (good bs) = arrive p (suc s.step) (kept_of s (range reg len slot over) (good bs))
 
 -- a reply as a record gives it: the failure code or 0, and six data bytes
 abbrev pub to_reply : ℕ → List ℕ → Reply
@@ -155,9 +168,9 @@ outstanding s = first_transfer_out (drop s.step (ops_of (program_of s.code))) (c
 abbrev pub idle_wrong : ℕ → List Op → ℕ → Bool
 idle_wrong code [] i = true
 idle_wrong code (write reg bytes len over after ∷ ops) i = not (eqb i 0)
-idle_wrong code (read reg len slot over after ∷ ops) i = not (eqb i 0)
+idle_wrong code (read reg len slot finds over after ∷ ops) i = not (eqb i 0)
 idle_wrong code (wait x ∷ ops) i = leb (wait_limit code x) i
-idle_wrong code (range ∷ ops) i = not (eqb i 0)
+idle_wrong code (range reg len slot over ∷ ops) i = not (eqb i 0)
 
 abbrev pub up_wrong : ℕ → Bool → Bool
 up_wrong code up = cond (eqb code 1) up (not up)
@@ -185,19 +198,7 @@ reply_def s f bs =
 
 -- a call as it begins; a bring-up leaves none of the fields
 abbrev pub begun : Session → ℕ → ℕ → ℕ → Session
-begun s code a b =
-    record {
-      driver = cond (eqb code 1) absent s.driver;
-      code = code;
-      a = a;
-      b = b;
-      step = 0;
-      idle = 0;
-      transfers = 0;
-      failed = 0;
-      own = 0;
-      carried = zeros;
-    }
+begun s code a b = calling (held_by code s.driver) code a b
 
 abbrev pub not_up : ℕ → Bool → Bool
 not_up code up = cond (eqb code 1) false (not up)
@@ -209,7 +210,7 @@ begin_def s code a b =
     (cond (not (arguments_ok code a b)) (refused Answer.IllFormedRecord s)
     (cond (waits_now s) (refused Answer.CallWaits s)
     (cond (not_up code s.driver.up) (refused Answer.NotUp s)
-    (decide ((program_of code).entry (context_of (begun s code a b))) (program_of code) 0 0 (begun s code a b)))))
+    (decide ((program_of code).entry (context_of (begun s code a b))) (program_of code) (length (program_of code).steps) 0 (begun s code a b)))))
 
 -- a record of no kind: 15, 13
 unfoldable pub other_def : Session → Outcome

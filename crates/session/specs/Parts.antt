@@ -13,13 +13,13 @@ pub data Part : Type 0 where
   byte_in : ℕ → Part
   -- a byte of the range word, which counts where its read did not fail
   range_byte_in : ℕ → Part
-  failure_code own_budget argument_a argument_b : Part
+  failure_code budget_found argument_a argument_b : Part
 
 abbrev pub part_of : Part → Session → ℕ
 part_of (byte_in i) s = byte i s.carried
 part_of (range_byte_in i) s = cond (eqb s.failed 0) (byte i s.carried) 0
 part_of failure_code s = s.failed
-part_of own_budget s = s.own
+part_of budget_found s = s.found_budget
 part_of argument_a s = s.a
 part_of argument_b s = s.b
 
@@ -53,7 +53,7 @@ needed_rows =
     ∷ (1, 8, 155, bytes_in 1 1)
     ∷ (1, 29, 42, bytes_in 3 1)
     ∷ (1, 38, 42, bytes_in 16 6)
-    ∷ (1, 135, 155, own_budget ∷ [])
+    ∷ (1, 135, 155, budget_found ∷ [])
     ∷ budget_rows 1 129 8
     ++ budget_rows 1 136 16
     ++ (3, 0, 0, argument_a ∷ [])
@@ -71,8 +71,8 @@ needed_rows =
 -- what the course of a call looks at when a reply is good: whether it goes on, and to which step, or the number of its answer
 unfoldable pub course_rows : Rows
 course_rows =
-    (1, 135, 135, own_budget ∷ [])
-    ∷ (1, 141, 141, own_budget ∷ [])
+    (1, 135, 135, budget_found ∷ [])
+    ∷ (1, 141, 141, budget_found ∷ [])
     ∷ budget_rows 1 129 8
     ++ budget_rows 1 136 16
     ++ (4, 6, 7, argument_a ∷ [])
@@ -93,7 +93,7 @@ sent_rows =
     ∷ (1, 32, 32, bytes_in 2 1)
     ∷ (1, 43, 43, byte_in 3 ∷ bytes_in 16 6)
     ∷ (1, 126, 126, bytes_in 2 1)
-    ∷ (1, 142, 142, own_budget ∷ bytes_in 16 8)
+    ∷ (1, 142, 142, budget_found ∷ bytes_in 16 8)
     ∷ (3, 0, 0, argument_a ∷ [])
     ∷ (4, 8, 9, argument_a ∷ [])
     ∷ (4, 8, 8, bytes_in 8 2)
@@ -159,9 +159,14 @@ abbrev pub kept_at : ℕ → ℕ → List (ℕ × ℕ × ℕ × ℕ) → List �
 kept_at code step [] l bs = l
 kept_at code step (r ∷ rs) l bs = cond (eqb r.0 code && eqb r.1 step) (sets l r.2 (bytes_from 0 r.3 bs)) (kept_at code step rs l bs)
 
--- the range reads, and the last of a bring-up's first budget reads, after which the budget is kept too
+-- the range reads
 abbrev pub reads_range_at : ℕ → ℕ → Bool
 reads_range_at code step = (eqb code 6 && eqb step 1) || (eqb code 7 && eqb step 1) || (eqb code 8 && eqb step 10)
 
+-- the clearing after the range read of a call that reports the read's code
+abbrev pub clears_at : ℕ → ℕ → Bool
+clears_at code step = eqb code 6 && leb 2 step
+
+-- the last of a bring-up's first budget reads, after which the budget is kept too
 abbrev pub gives_budget : ℕ → ℕ → Bool
 gives_budget code step = eqb code 1 && eqb step 134

@@ -1,7 +1,6 @@
--- Records of eight bytes, and what one record gives a session. SCOPE 7.
+-- Records of eight bytes. SCOPE 7.
 use Rattle.std.specs.Prelude.{Bool, cond, List, [], ◌∷◌, ℕ, ◌+◌, ◌*◌, ◌/◌, ◌%◌, eqb, length}
 use Rattle.session.specs.Bus.{pad_to}
-use Rattle.session.specs.Machine.{Session, Outcome, reply_def, begin_def, other_def}
 
 -- a call (code, A, B), a reply (failure code or 0, six data bytes), or a record of no kind
 pub data Record : Type 0 where
@@ -37,9 +36,3 @@ records_of (a ∷ b ∷ c ∷ d ∷ e ∷ f ∷ g ∷ h ∷ l) = record_of a b c
 -- SCOPE 8.2: a list whose length is no multiple of 8 is not run
 abbrev pub is_whole : List ℕ → Bool
 is_whole bytes = eqb (length bytes % 8) 0
-
--- one record meets one session
-unfoldable pub step_def : Session → Record → Outcome
-step_def s (call code a b) = begin_def s code a b
-step_def s (reply f bs) = reply_def s f bs
-step_def s other = other_def s

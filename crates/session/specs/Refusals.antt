@@ -1,82 +1,68 @@
 -- The refusals of SCOPE 9.1 and SCOPE 9.2, in plain numbers: conditions with their answers, and the first that holds decides.
 -- Its ranges, limits, lengths and ceilings are written down again here: with the machine it shares only what a session and a record are.
-use Rattle.std.specs.Prelude.{◌≡◌, Bool, true, false, not, ◌||◌, ◌&&◌, cond, List, [], ◌∷◌, ◌++◌, ℕ, eqb, ltb, leb, length, get_or, replicate}
+use Rattle.std.specs.Prelude.{◌≡◌, Bool, true, false, not, ◌||◌, ◌&&◌, cond, List, [], ◌∷◌, ◌++◌, ℕ, eqb, ltb, leb}
 use Rattle.std.proofs.Math.Option.{Option, some, none}
 use Rattle.std.specs.Float.{binary32}
 use Rattle.std.specs.Float.Ieee.{round, of_bits, le}
 use Rattle.session.specs.Bus.{zero_from, clean_from}
-use Rattle.session.specs.Machine.{Session}
+use Rattle.session.specs.declared.Session.{Session}
 use Rattle.session.specs.Records.{Record, call, reply, other}
 
--- SCOPE 5.1: code, greatest A, greatest B
-abbrev pub ranges : List (ℕ × ℕ × ℕ)
-ranges =
-    (1, 255, 0)
-    ∷ (2, 0, 0)
-    ∷ (3, 255, 0)
-    ∷ (4, 4294967295, 0)
-    ∷ (5, 0, 0)
-    ∷ (6, 0, 0)
-    ∷ (7, 0, 0)
-    ∷ (8, 0, 0)
-    ∷ (9, 4294967295, 0)
-    ∷ (10, 65535, 65535)
-    ∷ (11, 0, 0)
-    ∷ (12, 3, 1)
-    ∷ (13, 0, 0)
-    ∷ (14, 4294967295, 0)
-    ∷ (15, 0, 0)
+-- a call by its code: the greatest A and B and the most transfers (SCOPE 5.1), how many steps it has, which of them are waits, each with its limit
+-- (SCOPE 4.2), and which read another length than 1, each with that length
+pub record Row : Type 0 where
+  pub code : ℕ
+  pub greatest_a : ℕ
+  pub greatest_b : ℕ
+  pub steps : ℕ
+  pub ceiling : ℕ
+  pub waits : List (ℕ × ℕ)
+  pub lengths : List (ℕ × ℕ)
+
+abbrev pub row : ℕ → ℕ → ℕ → ℕ → ℕ → List (ℕ × ℕ) → List (ℕ × ℕ) → Row
+row code a b steps ceiling waits lengths =
+    record { code = code; greatest_a = a; greatest_b = b; steps = steps; ceiling = ceiling; waits = waits; lengths = lengths }
+
+unfoldable pub call_rows : List Row
+call_rows =
+    row 1 255 0 156 85688 ((26, 65535) ∷ (145, 10000) ∷ (151, 10000) ∷ []) ((37, 6) ∷ (43, 6) ∷ (130, 2) ∷ (131, 2) ∷ (137, 2) ∷ (138, 2) ∷ [])
+    ∷ row 2 0 0 1 1 [] []
+    ∷ row 3 255 0 1 1 [] ((0, 0) ∷ [])
+    ∷ row 4 4294967295 0 10 10 [] ((7, 2) ∷ [])
+    ∷ row 5 0 0 6 6 [] []
+    ∷ row 6 0 0 4 4 [] ((1, 2) ∷ [])
+    ∷ row 7 0 0 4 10003 ((0, 10000) ∷ []) ((1, 2) ∷ [])
+    ∷ row 8 0 0 13 20011 ((8, 10000) ∷ (9, 10000) ∷ []) ((10, 2) ∷ [])
+    ∷ row 9 4294967295 0 7 7 [] ((1, 2) ∷ (2, 2) ∷ [])
+    ∷ row 10 65535 65535 2 2 [] []
+    ∷ row 11 0 0 2 2 [] ((0, 2) ∷ (1, 2) ∷ [])
+    ∷ row 12 3 1 5 5 [] []
+    ∷ row 13 0 0 2 2 [] []
+    ∷ row 14 4294967295 0 1 1 [] []
+    ∷ row 15 0 0 6 6 [] ((1, 2) ∷ (2, 2) ∷ [])
     ∷ []
 
-abbrev pub in_range : ℕ → ℕ → ℕ → List (ℕ × ℕ × ℕ) → Bool
+-- SCOPE 5.1; a code without a row is no call's
+abbrev pub in_range : ℕ → ℕ → ℕ → List Row → Bool
 in_range code a b [] = false
-in_range code a b (r ∷ rs) = cond (eqb code r.0) (leb a r.1 && leb b r.2) (in_range code a b rs)
+in_range code a b (r ∷ rs) = cond (eqb code r.code) (leb a r.greatest_a && leb b r.greatest_b) (in_range code a b rs)
 
--- by code, for each step: the limit of its wait, or 0 where it is no wait
-unfoldable pub limit_rows : List (List ℕ)
-limit_rows =
-    []
-    ∷ (replicate 26 0 ++ 65535 ∷ replicate 118 0 ++ 10000 ∷ replicate 5 0 ++ 10000 ∷ replicate 4 0)
-    ∷ (0 ∷ [])
-    ∷ (0 ∷ [])
-    ∷ (0 ∷ 0 ∷ 0 ∷ 0 ∷ 0 ∷ 0 ∷ 0 ∷ 0 ∷ 0 ∷ 0 ∷ [])
-    ∷ (0 ∷ 0 ∷ 0 ∷ 0 ∷ 0 ∷ 0 ∷ [])
-    ∷ (0 ∷ 0 ∷ 0 ∷ 0 ∷ [])
-    ∷ (10000 ∷ 0 ∷ 0 ∷ 0 ∷ [])
-    ∷ (0 ∷ 0 ∷ 0 ∷ 0 ∷ 0 ∷ 0 ∷ 0 ∷ 0 ∷ 10000 ∷ 10000 ∷ 0 ∷ 0 ∷ 0 ∷ [])
-    ∷ (0 ∷ 0 ∷ 0 ∷ 0 ∷ 0 ∷ 0 ∷ 0 ∷ [])
-    ∷ (0 ∷ 0 ∷ [])
-    ∷ (0 ∷ 0 ∷ [])
-    ∷ (0 ∷ 0 ∷ 0 ∷ 0 ∷ 0 ∷ [])
-    ∷ (0 ∷ 0 ∷ [])
-    ∷ (0 ∷ [])
-    ∷ (0 ∷ 0 ∷ 0 ∷ 0 ∷ 0 ∷ 0 ∷ [])
-    ∷ []
+abbrev pub row_of : ℕ → List Row → Row
+row_of code [] = row 0 0 0 0 0 [] []
+row_of code (r ∷ rs) = cond (eqb code r.code) r (row_of code rs)
 
--- by code, for each step: the read length of its transfer
-unfoldable pub length_rows : List (List ℕ)
-length_rows =
-    []
-    ∷ (replicate 37 1 ++ 6 ∷ replicate 5 1 ++ 6 ∷ replicate 85 1 ++ 1 ∷ 2 ∷ 2 ∷ 1 ∷ 1 ∷ 1 ∷ 1 ∷ 1 ∷ 2 ∷ 2 ∷ 1 ∷ 1 ∷ 1 ∷ replicate 14 1)
-    ∷ (1 ∷ [])
-    ∷ (0 ∷ [])
-    ∷ (1 ∷ 1 ∷ 1 ∷ 1 ∷ 1 ∷ 1 ∷ 1 ∷ 2 ∷ 1 ∷ 1 ∷ [])
-    ∷ (1 ∷ 1 ∷ 1 ∷ 1 ∷ 1 ∷ 1 ∷ [])
-    ∷ (1 ∷ 2 ∷ 1 ∷ 1 ∷ [])
-    ∷ (1 ∷ 2 ∷ 1 ∷ 1 ∷ [])
-    ∷ (1 ∷ 1 ∷ 1 ∷ 1 ∷ 1 ∷ 1 ∷ 1 ∷ 1 ∷ 1 ∷ 1 ∷ 2 ∷ 1 ∷ 1 ∷ [])
-    ∷ (1 ∷ 2 ∷ 2 ∷ 1 ∷ 1 ∷ 1 ∷ 1 ∷ [])
-    ∷ (1 ∷ 1 ∷ [])
-    ∷ (2 ∷ 2 ∷ [])
-    ∷ (1 ∷ 1 ∷ 1 ∷ 1 ∷ 1 ∷ [])
-    ∷ (1 ∷ 1 ∷ [])
-    ∷ (1 ∷ [])
-    ∷ (1 ∷ 2 ∷ 2 ∷ 1 ∷ 1 ∷ 1 ∷ [])
-    ∷ []
+-- the number beside a step, else another
+abbrev pub beside : ℕ → List (ℕ × ℕ) → ℕ → ℕ
+beside step [] n = n
+beside step (x ∷ xs) n = cond (eqb step x.0) x.1 (beside step xs n)
 
--- by code: the most transfers
-unfoldable pub ceiling_rows : List ℕ
-ceiling_rows = 0 ∷ 85688 ∷ 1 ∷ 1 ∷ 10 ∷ 6 ∷ 4 ∷ 10003 ∷ 20011 ∷ 7 ∷ 2 ∷ 2 ∷ 5 ∷ 2 ∷ 1 ∷ 6 ∷ []
+-- the limit of the wait at a step, or 0 where it is no wait
+abbrev pub limit_at : Row → ℕ → ℕ
+limit_at r step = beside step r.waits 0
+
+-- the read length of the transfer at a step
+abbrev pub length_at : Row → ℕ → ℕ
+length_at r step = beside step r.lengths 1
 
 -- a call waits
 abbrev pub busy : Session → Bool
@@ -89,25 +75,25 @@ idle_bad limit idle = cond (eqb limit 0) (not (eqb idle 0)) (leb limit idle)
 -- the session itself, while a call waits
 abbrev pub of_session : Session → List (Bool × ℕ)
 of_session s =
-    (busy s && not (in_range s.code s.a s.b ranges), 15)
+    (busy s && not (in_range s.code s.a s.b call_rows), 15)
     ∷ (busy s && (eqb s.code 1 && s.driver.up), 15)
     ∷ (busy s && (not (eqb s.code 1) && not s.driver.up), 15)
-    ∷ (busy s && leb (length (get_or limit_rows s.code [])) s.step, 15)
-    ∷ (busy s && idle_bad (get_or (get_or limit_rows s.code []) s.step 0) s.idle, 15)
+    ∷ (busy s && leb (row_of s.code call_rows).steps s.step, 15)
+    ∷ (busy s && idle_bad (limit_at (row_of s.code call_rows) s.step) s.idle, 15)
     ∷ (busy s && eqb s.transfers 0, 15)
-    ∷ (busy s && ltb (get_or ceiling_rows s.code 0) s.transfers, 15)
+    ∷ (busy s && ltb (row_of s.code call_rows).ceiling s.transfers, 15)
     ∷ []
 
 -- what the record itself meets
 abbrev pub for_record : Session → Record → List (Bool × ℕ)
 for_record s (call code a b) =
-    (not (in_range code a b ranges), 13)
+    (not (in_range code a b call_rows), 13)
     ∷ (busy s, 10)
     ∷ (not (eqb code 1) && not s.driver.up, 9)
     ∷ []
 for_record s (reply f bs) =
     (not (busy s), 11)
-    ∷ (not (zero_from (clean_from f (get_or (get_or length_rows s.code []) s.step 0)) bs), 12)
+    ∷ (not (zero_from (clean_from f (length_at (row_of s.code call_rows) s.step)) bs), 12)
     ∷ []
 for_record s other = (true, 13) ∷ []
 

@@ -230,19 +230,26 @@ pair p = Answer.Done (p.0 * 65536 + p.1)
 abbrev pub Call : Type 0
 Call = Driver → ℕ → ℕ → Script
 
+-- where the function takes a `u8` or a `u16`, that is A `as` one
+abbrev pub as_u8 : ℕ → ℕ
+as_u8 a = a % 256
+
+abbrev pub as_u16 : ℕ → ℕ
+as_u16 a = a % 65536
+
 unfoldable pub calls : List Call
 calls =
     (λ d a b. done Answer.False d)
-    ∷ (λ d a b. constructor a with_address)
+    ∷ (λ d a b. constructor (as_u8 a) with_address)
     ∷ (λ d a b. method number d who_am_i)
-    ∷ (λ d a b. method unit d (set_address a))
+    ∷ (λ d a b. method unit d (set_address (as_u8 a)))
     ∷ (λ d a b. method unit d (start_continuous a))
     ∷ (λ d a b. method unit d stop_continuous)
     ∷ (λ d a b. method number d read_range_mm)
     ∷ (λ d a b. method number d read_range_continuous_millimeters_blocking)
     ∷ (λ d a b. method number d read_range_single_millimeters_blocking)
     ∷ (λ d a b. method flag d (set_measurement_timing_budget a))
-    ∷ (λ d a b. method unit d (set_interrupt_thresholds_mm a b))
+    ∷ (λ d a b. method unit d (set_interrupt_thresholds_mm (as_u16 a) b))
     ∷ (λ d a b. method pair d get_interrupt_thresholds_mm)
     ∷ (λ d a b. method unit d (set_gpio_config a b))
     ∷ (λ d a b. method unit d clear_interrupt_status)

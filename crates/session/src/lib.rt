@@ -25,7 +25,7 @@ pub struct Driver {
 // A driver and the call that waits for a reply of the bus, if there is one.
 // `code` 0: no call waits. `a` and `b` are its arguments, `step` its place in the list of its
 // instructions, `idle` the idle reads of the wait it stands at, `transfers` those made so far.
-// `failed` is the failure code of its range read, `own` the budget that its first six budget reads
+// `failed` is the failure code of its range read, `found_budget` the budget that its first six budget reads
 // gave, `carried` the reply bytes that it has kept, raw.
 // The carried bytes are 24 because memory is fixed, and each call has slots of its own among them.
 // `code` and `failed` are numbers, where 0 says that there is none, since callers in C hand in any: answer 15 judges them, and not a type.
@@ -39,7 +39,7 @@ pub struct Session {
     pub idle: u32,
     pub transfers: u32,
     pub failed: u8,
-    pub own: u32,
+    pub found_budget: u32,
     pub carried: [u8; 24],
 }
 
@@ -51,6 +51,21 @@ pub struct Transfer {
     pub count: u8,
     pub written: [u8; 7],
     pub reads: u8,
+}
+
+// What a wait waits for: a byte of 0x83, of 0x13, of 0x00.
+#[derive(Clone, Copy, PartialEq, Eq, Debug)]
+pub enum Condition {
+    DetectorReady,
+    StatusReady,
+    Started,
+}
+
+// Which budget a call sets: the one that it has found, or the one that its argument asks for.
+#[derive(Clone, Copy, PartialEq, Eq, Debug)]
+pub enum Setting {
+    Found,
+    Asked,
 }
 
 // A call as a record gives it: its code and the arguments A and B.
@@ -88,6 +103,22 @@ pub enum Answer {
     IllFormedRecord,
     SpareBytes,
     IllFormedSession,
+}
+
+// One of four: a transfer, the answer of a call with the transfers that it made, a refusal, or the session itself is ill-formed (answer 15).
+#[derive(Clone, Copy)]
+pub enum Given {
+    Sent(Transfer),
+    Answered(Answer, u32),
+    Refused(Answer),
+    IllFormed,
+}
+
+// What a call, a reply or a record gives, and the new session.
+#[derive(Clone, Copy)]
+pub struct Outcome {
+    pub given: Given,
+    pub session: Session,
 }
 
 // One step of a call: a transfer and what is done with its reply. Registers, bytes and slots of
@@ -131,16 +162,16 @@ pub enum Instruction {
     ReadStatus,
     // One of the six budget reads, by its number and the slot of the first of their bytes.
     ReadTiming(u8, u8),
-    // The last budget read before a new final range word is written.
-    ReadLast(u8),
+    // The sixth of the budget reads from slot 8 on: it finds the budget that they amount to.
+    FindBudget,
+    // The sixth of those that are kept from a slot on, before a new final range word is written for a budget.
+    ReadLast(u8, Setting),
     // Write the sequence steps; skip the setting of a budget that is too short.
     WriteSteps,
-    // Write the final range word.
-    WriteWord(u8),
+    // Write the final range word for the replies that are kept from a slot on.
+    WriteWord(u8, Setting),
     // One read of a wait.
-    AwaitDetector,
-    AwaitStatus,
-    AwaitStart,
-    // The range read: a failure is kept, and the call goes on.
-    ReadRange,
+    Await(Condition),
+    // A range read, from a register, of so many bytes into a slot: a failure is kept, and the call goes on over so many instructions.
+    ReadRange(u8, u8, u8, u8),
 }

@@ -1,11 +1,8 @@
 -- The six budget replies and the steps of the sequence.
-use Rattle.std.specs.Prelude.{Bool, cond, List, ℕ, ◌+◌, ◌*◌, ◌/◌, ◌%◌, ◌^◌, eqb, get_or}
+use Rattle.std.specs.Prelude.{Bool, cond, List, ℕ, ◌/◌, ◌%◌, ◌^◌, eqb, get_or}
+use Rattle.ground.specs.Numbers.{word_of}
 use Rattle.timing.specs.declared.TimingRegisters.{TimingRegisters}
 use Rattle.timing.specs.declared.SeqStepEnables.{SeqStepEnables}
-
--- SCOPE 4.1: the high byte of a word comes first. lib.rs: read_16bit
-abbrev pub word_of : ℕ → ℕ → ℕ
-word_of high low = high * 256 + low
 
 -- SCOPE 5.3: the replies to 0x01, 0x51, 0x71, 0x50, 0x46, 0x70, in this order
 abbrev pub registers_of : List ℕ → TimingRegisters

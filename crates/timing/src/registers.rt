@@ -1,15 +1,9 @@
 // From the raw reply bytes to numbers and flags.
 ghost use Rattle.std.specs.Prelude.{◌≡◌};
-ghost use Rattle.timing.specs.Registers.{word_of, registers_of, sequence_step_enables};
+ghost use Rattle.timing.specs.Registers.{registers_of, sequence_step_enables};
 
 use crate::{SeqStepEnables, TimingRegisters};
-
-// Two bytes as a number, high byte first.
-pub fn word(high: u8, low: u8) -> u16
-    ensures { result ≡ word_of high low }
-{
-    u16::from_be_bytes([high, low])
-}
+use ground::word;
 
 // The registers from the eight raw bytes of the replies, in the order of the reads.
 pub fn timing_registers(bytes: [u8; 8]) -> TimingRegisters

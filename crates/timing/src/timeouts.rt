@@ -2,11 +2,11 @@
 // nothing uses it, since the place comes first.
 ghost use Rattle.std.specs.Prelude.{◌≡◌};
 ghost use Rattle.timing.specs.Timeouts.{timeout_clocks, period_clocks, time_in, pre_share, final_clocks};
-ghost use Rattle.timing.specs.Timeouts.{msrc_clocks, msrc_time, pre_time, final_time};
+ghost use Rattle.timing.specs.Timeouts.{step_time, step_clocks, msrc_clocks, msrc_time, pre_time, final_time};
 
 use crate::TimingRegisters;
 use crate::registers::sequence_step_enables;
-use clock::{Mclks, Microseconds, Pclks, Place};
+use clock::{Mclks, Microseconds, Pclks, Place, WideMclks};
 
 #[tactic(auto, unfolding(crate::specs::Timeouts::timeout_clocks))]
 pub fn timeout_clocks(word: u16) -> Mclks
@@ -16,10 +16,24 @@ pub fn timeout_clocks(word: u16) -> Mclks
 }
 
 #[tactic(auto, unfolding(crate::specs::Timeouts::period_clocks))]
-pub fn period_clocks(byte: u8) -> Pclks
+fn period_clocks(byte: u8) -> Pclks
     ensures { result ≡ period_clocks byte }
 {
     clock::decode_vcsel_period(byte).unwrap_or(Pclks(0))
+}
+
+// What so many clocks take, at the period that a register byte stands for.
+fn step_time(clocks: Mclks, period: u8) -> Result<Microseconds, Place>
+    ensures { result ≡ step_time clocks period }
+{
+    clock::timeout_mclks_to_microseconds(clocks, period_clocks(period))
+}
+
+// And back: how many clocks so much time is.
+pub fn step_clocks(time: Microseconds, period: u8) -> Result<WideMclks, Place>
+    ensures { result ≡ step_clocks time period }
+{
+    clock::timeout_microseconds_to_mclks(time, period_clocks(period))
 }
 
 // A time, or 0 where its arithmetic has a place: the place comes first, so that nothing uses it.
@@ -63,19 +77,19 @@ fn msrc_clocks(r: TimingRegisters) -> Mclks
 pub fn msrc_time(r: TimingRegisters) -> Result<Microseconds, Place>
     ensures { result ≡ msrc_time r }
 {
-    clock::timeout_mclks_to_microseconds(msrc_clocks(r), period_clocks(r.preperiod))
+    step_time(msrc_clocks(r), r.preperiod)
 }
 
 #[tactic(auto, unfolding(crate::specs::Timeouts::pre_time))]
 pub fn pre_time(r: TimingRegisters) -> Result<Microseconds, Place>
     ensures { result ≡ pre_time r }
 {
-    clock::timeout_mclks_to_microseconds(timeout_clocks(r.pretimeout), period_clocks(r.preperiod))
+    step_time(timeout_clocks(r.pretimeout), r.preperiod)
 }
 
 #[tactic(auto, unfolding(crate::specs::Timeouts::final_time))]
 pub fn final_time(r: TimingRegisters) -> Result<Microseconds, Place>
     ensures { result ≡ final_time r }
 {
-    clock::timeout_mclks_to_microseconds(final_clocks(r), period_clocks(r.finalperiod))
+    step_time(final_clocks(r), r.finalperiod)
 }

@@ -1,7 +1,7 @@
 -- Facts that the proofs of single functions cite.
 use mathlib.Core.Path.{◌≡◌, refl, sym}
 use mathlib.Core.List.{List, [], ◌∷◌}
-use Prim.Native.Nat.{ℕ, zero, suc, ◌≤◌, ◌<◌}
+use Prim.Native.Nat.{ℕ, zero, suc, ◌<◌}
 use native.Mathlib.Omega.{arith}
 use lib.ListN.{length, get_or}
 use native.Mathlib.Nat.{mod-eq_of_lt}
@@ -9,8 +9,6 @@ use lib.Bits.{bit_and, bit_or}
 use Rattle.spad.specs.Masks.{or_byte, and_byte}
 use Rattle.spad.proofs.Masks.{or_is, and_is}
 use Rattle.session.specs.Bus.{pad_to}
-use Rattle.session.specs.declared.Instruction.{Instruction}
-use Rattle.steps.specs.Steps.{most_at}
 
 -- masks of bytes
 module _ (x m : ℕ) (hx : x < 256) (hm : m < 256) where
@@ -19,15 +17,6 @@ module _ (x m : ℕ) (hx : x < 256) (hm : m < 256) where
 
   pub and_mask : bit_and x m ≡ and_byte x m
   and_mask = sym (rw (and_is x m) (rw (mod-eq_of_lt hx) (rw (mod-eq_of_lt hm) refl)))
-
--- an argument that is written as a byte or as a word
-pub address_written : (x : Instruction) (a : ℕ) → x ≡ Instruction.WriteAddress → a ≤ most_at x → a ≤ 255
-unfolding most_at
-address_written x a e h = rw e at h
-
-pub low_written : (x : Instruction) (a : ℕ) → x ≡ Instruction.WriteLow → a ≤ most_at x → a ≤ 65535
-unfolding most_at
-low_written x a e h = rw e at h
 
 -- as many bytes as are asked for, each the one at its place or 0
 pub padded : (n : ℕ) (bs xs : List ℕ) → length xs ≡ n → ((i : ℕ) → i < n → get_or xs i 0 ≡ get_or bs i 0) → xs ≡ pad_to n bs

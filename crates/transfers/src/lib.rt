@@ -9,12 +9,15 @@ ghost use Rattle.threshold.specs.Threshold.{encode_threshold};
 ghost use Rattle.session.specs.Bus.{transfer_of};
 ghost use Rattle.session.specs.Instructions.{send_of, bytes_from};
 ghost use Rattle.session.specs.Steps.{op_of, word_bytes, long_bytes, timing_register, timing_length};
-ghost use Rattle.steps.specs.Steps.{context_at, most_at};
+ghost use Rattle.session.specs.Machine.{address_of, context_of};
 
 use crate::written::{and_byte, new_map, or_byte};
-use session::{Instruction, Session, Transfer};
+use session::{Instruction, Session, Transfer, WITH_ADDRESS};
+use shapes::{
+    address_in, held, low_in, oscillator_word, timed_period, timing_read, wait_register,
+    word_to_set,
+};
 use std::array::from_fn;
-use steps::{held, oscillator_word, timed_period, timing_read, word_to_set};
 use threshold::Millimeters;
 
 // The bytes that are written, with zeros after them, and how many are read then.
@@ -103,7 +106,7 @@ fn polarity_byte(polarity: u16, kept: u8) -> u8
     }
 }
 
-#[tactic(auto, unfolding(steps::specs::Steps::timing_read))]
+#[tactic(auto, unfolding(shapes::specs::Shapes::timing_read))]
 fn read_timing(address: u8, n: u8) -> Transfer
     ensures { result ≡ transfer_of address (timing_register n ∷ []) (timing_length n) }
 {
@@ -111,12 +114,22 @@ fn read_timing(address: u8, n: u8) -> Transfer
     read(address, timing.register, timing.length)
 }
 
-// The transfer of an instruction, to an address. One arm for each. The limit of A is of one argument at one instruction, so it is a clause
-// and no type; the casts fit by it.
-pub fn transfer_to(address: u8, i: Instruction, s: Session) -> Transfer
-    requires { s.a ≤ most_at i }
-    ensures { result ≡ send_of (op_of i) (context_at address s) }
+// A bring-up's transfers go to its own address.
+fn address_of(s: Session) -> u8
+    ensures { result ≡ address_of s.code s.a s.driver }
 {
+    if s.code == WITH_ADDRESS {
+        address_in(s)
+    } else {
+        s.driver.address
+    }
+}
+
+// The transfer of an instruction. One arm for each.
+pub fn send_of(i: Instruction, s: Session) -> Transfer
+    ensures { result ≡ send_of (op_of i) (context_of s) }
+{
+    let address = address_of(s);
     match i {
         Instruction::Nowhere => read(address, 0x00, 1),
         Instruction::Write(register, byte) => write(address, register, byte),
@@ -150,23 +163,21 @@ pub fn transfer_to(address: u8, i: Instruction, s: Session) -> Transfer
             timed_period(s.a, oscillator_word(s)),
         ),
         Instruction::WriteMode => write(address, 0x00, mode(s.a)),
-        Instruction::WriteAddress => sent(address, &[0x8A, s.a as u8], 0),
-        Instruction::WriteLow => write_threshold(address, 0x0E, s.a as u16),
+        Instruction::WriteAddress => sent(address, &[0x8A, address_in(s)], 0),
+        Instruction::WriteLow => write_threshold(address, 0x0E, low_in(s)),
         Instruction::WriteHigh => write_threshold(address, 0x0C, s.b),
         Instruction::WriteFunction => write(address, 0x0A, function_byte(s.a)),
         Instruction::WritePolarity => write(address, 0x84, polarity_byte(s.b, s.carried[2])),
         Instruction::ReadStatus => read(address, 0x13, 1),
         Instruction::ReadTiming(n, _) => read_timing(address, n),
-        Instruction::ReadLast(_) => read(address, 0x70, 1),
+        Instruction::FindBudget | Instruction::ReadLast(_, _) => read(address, 0x70, 1),
         Instruction::WriteSteps => write(address, 0x01, 0xE8),
-        Instruction::WriteWord(slot) => write_word(
+        Instruction::WriteWord(slot, setting) => write_word(
             address,
             0x71,
-            word_to_set(slot, s).unwrap_or(0),
+            word_to_set(slot, setting, s).unwrap_or(0),
         ),
-        Instruction::AwaitDetector => read(address, 0x83, 1),
-        Instruction::AwaitStatus => read(address, 0x13, 1),
-        Instruction::AwaitStart => read(address, 0x00, 1),
-        Instruction::ReadRange => read(address, 0x1E, 2),
+        Instruction::Await(condition) => read(address, wait_register(condition), 1),
+        Instruction::ReadRange(register, reads, _, _) => read(address, register, reads),
     }
 }

@@ -11,11 +11,11 @@ use Rattle.session.specs.declared.Session.{Session}
 use Rattle.session.specs.Bus.{byte}
 use Rattle.session.specs.Claim1.{Single, one_transfer, one_answer, one_refusal, ill_formed_session}
 use Rattle.session.specs.Machine.{Outcome as Result}
-use Rattle.session.specs.Records.{step_def}
+use Rattle.session.specs.History.{step_def}
 use Rattle.session.proofs.Demand1.{demand_1}
-use Rattle.reactions.specs.Outcome.{outcome_of}
+use Rattle.session.specs.Given.{outcome_of}
 use Rattle.records.specs.Records.{record_in}
-use Rattle.layout.specs.Layout.{session_bytes, is_session, session_of, session_in, transfer_bytes, answer_bytes, refusal_bytes, given_bytes, outcome_bytes}
+use Rattle.layout.specs.Layout.{outcome_size, session_bytes, is_session, session_of, session_in, transfer_bytes, answer_bytes, refusal_bytes, given_bytes, outcome_bytes}
 use Rattle.layout.specs.RoundTrip.{are_bytes}
 use Rattle.layout.proofs.RoundTrip.{round_trip}
 use Rattle.vl53l0x.specs.Exports.{met, step_outcome, step_session, RefusalKeeps}
@@ -36,7 +36,7 @@ back session are is = ap session_bytes (sym (rw is refl)) ∙ round_trip.write_b
 pub refusal_keeps : RefusalKeeps
 unfolding step_outcome step_session met
 refusal_keeps session bytes outcome are =
-    by_tests (is_session session) (λ e. e) (eqb (length bytes) 8) (eqb (length outcome) 11)
+    by_tests (is_session session) (λ e. e) (eqb (length bytes) 8) (eqb (length outcome) outcome_size)
   where
     by_tests : (t : Bool) → (t ≡ true → is_session session ≡ true) → (p q : Bool)
         → 9 ≤ byte 0 (cond p (cond t (outcome_bytes (outcome_of (step_def (session_of session) (record_in bytes)))) (refusal_bytes Answer.IllFormedSession)) (refusal_bytes Answer.SpareBytes))

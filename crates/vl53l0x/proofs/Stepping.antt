@@ -2,26 +2,26 @@
 use mathlib.Core.Path.{◌≡◌, refl, ap, ◌∙◌}
 use mathlib.Core.Bool.{Bool, true, false, cond}
 use mathlib.Core.List.{List, [], ◌∷◌, ◌++◌, map}
-use Prim.Native.Nat.{ℕ, ◌+◌, ◌*◌, ◌<◌}
+use Prim.Native.Nat.{ℕ, ◌+◌, ◌<◌}
 use native.Mathlib.Omega.{arith}
 use lib.Dec.{ltb}
 use lib.ListN.{length, drop, length-drop}
 use Rattle.session.specs.declared.Session.{Session}
 use Rattle.session.specs.declared.Answer.{Answer}
-use Rattle.session.specs.Bus.{byte}
+use Rattle.session.specs.Bus.{values_of}
 use Rattle.session.specs.Machine.{Outcome, sent, answered, refused, broken, ill_formed, fresh_session}
-use Rattle.session.specs.Records.{records_of, is_whole, step_def}
-use Rattle.session.specs.History.{transfer, answer, refusal, Entry, Run, stopped, taking, run_from, run_records, run_def, got_of, session_of as left_by}
+use Rattle.session.specs.Records.{records_of, is_whole}
+use Rattle.session.specs.History.{step_def, transfer, answer, refusal, Entry, Run, stopped, taking, run_from, run_records, run_def, got_of, session_of as left_by}
 use Rattle.session.specs.Claim1.{Single, one_transfer, one_answer, one_refusal, ill_formed_session}
-use Rattle.session.proofs.Facts.{both}
+use Rattle.ground.proofs.Facts.{both}
 use Rattle.session.proofs.Demand1.{demand_1}
 use Rattle.session.proofs.Demand3.{demand_3}
-use Rattle.reactions.specs.Outcome.{outcome_of}
+use Rattle.session.specs.Given.{outcome_of}
 use Rattle.records.specs.Records.{record_in}
 use Rattle.records.proofs.Chunks.{chunks, chunked, records_chunked}
-use Rattle.layout.specs.Layout.{session_bytes, is_session, session_of, session_in, transfer_bytes, answer_bytes, given_bytes, outcome_bytes}
+use Rattle.layout.specs.Layout.{outcome_size, most_values, budget_at, a_at, b_at, idle_at, transfers_at, found_budget_at, long_at, session_bytes, is_session, session_of, session_in, transfer_bytes, answer_bytes, given_bytes, outcome_bytes}
 use Rattle.layout.specs.RoundTrip.{Fits, are_bytes}
-use Rattle.layout.proofs.Images.{fifty_two}
+use Rattle.layout.proofs.Images.{sized, longs_length}
 use Rattle.layout.proofs.RoundTrip.{round_trip, below}
 use Rattle.vl53l0x.specs.Exports.{met, step_outcome, step_session}
 use Rattle.vl53l0x.specs.Stepping.{Lent, stepped, session_left, outcomes_left, records_in, got_bytes, outcomes_of, Shows, FreshSteps, AnySteps}
@@ -52,7 +52,7 @@ eights (a ∷ b ∷ c ∷ d ∷ e ∷ f ∷ g ∷ k ∷ l) h =
     let q = split (a ∷ b ∷ c ∷ d ∷ e ∷ f ∷ g ∷ k ∷ []) l h in
     (refl, q.0, eights l q.1)
 
--- the bytes of an outcome are what its record got, and eleven
+-- the bytes of an outcome are what its record got, and as many as an outcome has
 got_is : (o : Outcome) → outcome_bytes (outcome_of o) ≡ got_bytes (got_of o)
 unfolding outcome_of given_bytes
 got_is (sent t s) = refl
@@ -60,12 +60,12 @@ got_is (answered x n s) = refl
 got_is (refused x s) = refl
 got_is (broken s) = refl
 
-eleven : (s : Session) (o : Outcome) → Single s o → length (got_bytes (got_of o)) ≡ 11
+all_there : (s : Session) (o : Outcome) → Single s o → length (got_bytes (got_of o)) ≡ outcome_size
 unfolding transfer_bytes answer_bytes
-eleven s _ (one_transfer t s' bus to is) = simp lib.ListN.length-append (rw bus.room refl)
-eleven s _ (one_answer x n s' most r) = refl
-eleven s _ (one_refusal x low high) = refl
-eleven s _ ill_formed_session = refl
+all_there s _ (one_transfer t s' bus to is) = simp lib.ListN.length-append (rw bus.room refl)
+all_there s _ (one_answer x n s' most r) = simp lib.ListN.length-append (rw (longs_length most_values (values_of x)) refl)
+all_there s _ (one_refusal x low high) = refl
+all_there s _ ill_formed_session = refl
 
 left_is : (o : Outcome) → (outcome_of o).session ≡ left_by o
 unfolding outcome_of
@@ -75,7 +75,7 @@ left_is (refused x s) = refl
 left_is (broken s) = refl
 
 -- one step, from a session's bytes
-module _ (s : Session) (fits : Fits s) (out r : List ℕ) (room : length out ≡ 11) (eight : length r ≡ 8) where
+module _ (s : Session) (fits : Fits s) (out r : List ℕ) (room : length out ≡ outcome_size) (eight : length r ≡ 8) where
   read : session_of (session_bytes s) ≡ s
   unfolding session_in
   read = rw (round_trip.is_a_session s fits) at (round_trip.read_back s fits)
@@ -103,7 +103,7 @@ lent_by o = record { session = session_bytes (left_by o); outcome = got_bytes (g
 
 abbrev Onward : Session → List (List ℕ) → Type 0
 Onward given rs =
-    (s : Session) (h : List Entry) (out : List ℕ) → Fits s → length out ≡ 11
+    (s : Session) (h : List Entry) (out : List ℕ) → Fits s → length out ≡ outcome_size
     → (run_from given (map record_in rs) s h).answer ≡ Answer.Done 0
     → Along (run_from given (map record_in rs) s h) (record { session = session_bytes s; outcome = out }) rs h
 
@@ -113,13 +113,13 @@ along given [] e s h out fits room done = record { session = refl; outcomes = re
 along given (r ∷ rs) e s h out fits room done =
     let o = step_def s (record_in r) in
     let q = one_step s fits out r room e.0 in
-    let n = go o (step_fits s r fits e.1) (eleven s o (demand_1 s (record_in r)).single) done (along given rs e.2) in
+    let n = go o (step_fits s r fits e.1) (all_there s o (demand_1 s (record_in r)).single) done (along given rs e.2) in
     record {
       session = ap (λ (l : Lent). session_left l rs) q ∙ n.session;
       outcomes = ap (λ (l : Lent). outcomes_of h (l.outcome ∷ outcomes_left l rs)) q ∙ n.outcomes;
     }
   where
-    go : (o : Outcome) → Fits (left_by o) → length (got_bytes (got_of o)) ≡ 11
+    go : (o : Outcome) → Fits (left_by o) → length (got_bytes (got_of o)) ≡ outcome_size
         → (taking o given h (record_in r) (run_from given (map record_in rs))).answer ≡ Answer.Done 0
         → Onward given rs
         → Along (taking o given h (record_in r) (run_from given (map record_in rs))) (lent_by o) rs (record { what = record_in r; got = got_of o } ∷ h)
@@ -129,7 +129,7 @@ along given (r ∷ rs) e s h out fits room done =
     go (broken s') f n d k = cc
 
 -- the whole run, from any session whose numbers fit
-from_session : (s : Session) (out bytes : List ℕ) → Fits s → length out ≡ 11 → is_whole bytes ≡ true → are_bytes bytes ≡ true
+from_session : (s : Session) (out bytes : List ℕ) → Fits s → length out ≡ outcome_size → is_whole bytes ≡ true → are_bytes bytes ≡ true
     → (run_def s bytes).answer ≡ Answer.Done 0 → Shows (run_def s bytes) (record { session = session_bytes s; outcome = out }) bytes
 unfolding run_def run_records
 from_session s out bytes fits room whole are done = rw whole (by_test (ill_formed s) (rw whole at done))
@@ -147,16 +147,16 @@ read_fits : (l : List ℕ) → is_session l ≡ true → are_bytes l ≡ true �
 unfolding session_of
 read_fits l is are =
     record {
-      budget = long 3;
-      a = long 8;
-      b = omega (arith, below l 12 are, below l 13 are);
-      idle = long 15;
-      transfers = long 19;
-      own = long 24;
-      carried = rw length-drop (omega (arith, fifty_two l is));
+      budget = long budget_at;
+      a = long a_at;
+      b = omega (arith, below l b_at are, below l (b_at + 1) are);
+      idle = long idle_at;
+      transfers = long transfers_at;
+      found_budget = long found_budget_at;
+      carried = rw length-drop (omega (arith, sized l is));
     }
   where
-    long : (i : ℕ) → byte (i + 3) l * 16777216 + byte (i + 2) l * 65536 + byte (i + 1) l * 256 + byte i l < 4294967296
+    long : (i : ℕ) → long_at i l < 4294967296
     long i = omega (arith, below l i are, below l (i + 1) are, below l (i + 2) are, below l (i + 3) are)
 
 pub any_steps : AnySteps
@@ -167,12 +167,12 @@ any_steps l bytes h is are done =
 
 fresh_fits : Fits fresh_session
 fresh_fits =
-    record { budget = omega arith; a = omega arith; b = omega arith; idle = omega arith; transfers = omega arith; own = omega arith; carried = refl }
+    record { budget = omega arith; a = omega arith; b = omega arith; idle = omega arith; transfers = omega arith; found_budget = omega arith; carried = refl }
 
 pub fresh_steps : FreshSteps
 fresh_steps l bytes h =
     let d = demand_3 bytes in
     record {
-      shows = rw h.session_room (from_session fresh_session l.outcome bytes fresh_fits h.outcome_room h.records_whole h.records_are_bytes (rw h.records_whole at d.answer));
+      shows = rw h.session_room (from_session fresh_session l.outcome bytes fresh_fits h.outcome_room h.records_whole h.records_are_bytes (rw h.records_whole at d.beyond.answer));
       demand_3 = d;
     }

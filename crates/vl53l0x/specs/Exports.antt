@@ -4,9 +4,9 @@ use Rattle.session.specs.declared.Answer.{Answer}
 use Rattle.session.specs.declared.Session.{Session}
 use Rattle.session.specs.Bus.{byte, number_of}
 use Rattle.session.specs.Machine.{outstanding, ill_formed, waits_now}
-use Rattle.session.specs.Records.{step_def}
-use Rattle.reactions.specs.declared.Outcome.{Outcome}
-use Rattle.reactions.specs.Outcome.{outcome_of}
+use Rattle.session.specs.History.{step_def}
+use Rattle.session.specs.declared.Outcome.{Outcome}
+use Rattle.session.specs.Given.{outcome_of}
 use Rattle.records.specs.Records.{record_in}
 use Rattle.layout.specs.Layout.{session_size, outcome_size, session_bytes, is_session, session_of, transfer_bytes, refusal_bytes, outcome_bytes}
 use Rattle.layout.specs.RoundTrip.{are_bytes}

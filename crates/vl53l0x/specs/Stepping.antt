@@ -2,12 +2,11 @@
 use Rattle.std.specs.Prelude.{◌≡◌, true, List, [], ◌∷◌, ℕ, ◌/◌, length}
 use Rattle.std.specs.Simd.{first_chunks}
 use Rattle.session.specs.declared.Answer.{Answer}
-use Rattle.session.specs.Bus.{number_of}
+use Rattle.session.specs.Bus.{number_of, values_of}
 use Rattle.session.specs.Machine.{fresh_session}
 use Rattle.session.specs.Records.{is_whole}
 use Rattle.session.specs.History.{Got, transfer, answer, refusal, Entry, Run, run_def}
-use Rattle.session.specs.Claim3.{Demand3}
-use Rattle.lines.specs.Lines.{value_of}
+use Rattle.session.specs.Claim3.{Both3}
 use Rattle.layout.specs.Layout.{session_size, outcome_size, placed, session_bytes, is_session, session_of, transfer_bytes, answer_bytes, refusal_bytes}
 use Rattle.layout.specs.RoundTrip.{are_bytes}
 use Rattle.vl53l0x.specs.Exports.{step_outcome, step_session}
@@ -41,7 +40,7 @@ records_in bytes = first_chunks 8 (length bytes / 8) bytes
 -- what a record got in a history, as the bytes of an outcome
 abbrev pub got_bytes : Got → List ℕ
 got_bytes (transfer t) = transfer_bytes t
-got_bytes (answer x n) = answer_bytes (number_of x) (value_of x) n
+got_bytes (answer x n) = answer_bytes (number_of x) (values_of x) n
 got_bytes (refusal x) = refusal_bytes x
 
 -- and of all its records, oldest first, before others
@@ -57,7 +56,7 @@ pub record Shows (run : Run) (l : Lent) (bytes : List ℕ) : Type 0 where
 -- from a session made fresh, over every list of whole records, a caller sees the list run, and demand 3 holds of it
 pub record StepsFresh (l : Lent) (bytes : List ℕ) : Type 0 where
   pub shows : Shows (run_def fresh_session bytes) (made_fresh l) bytes
-  pub demand_3 : Demand3 bytes (run_def fresh_session bytes)
+  pub demand_3 : Both3 bytes (run_def fresh_session bytes)
 
 -- the bytes that a caller has to lend and to hand in
 pub record Handed (l : Lent) (bytes : List ℕ) : Type 0 where

@@ -6,18 +6,18 @@ ghost use Rattle.session.specs.Machine.{fresh_session};
 ghost use Rattle.layout.specs.Layout.{session_size, outcome_size, placed, placed_number, session_bytes, given_bytes};
 ghost use Rattle.vl53l0x.specs.Exports.{step_outcome, step_session, fresh_number, outstanding_in};
 
-use reactions::Given;
-use session::Answer;
+use layout::{NOT_PUT, OUTCOME_SIZE, SESSION_SIZE};
+use session::{Answer, Given};
 
 // What C lends has any length, so that each function tests it, and says so by a number of its own.
 
-// A fresh session. Returned is 0, or 15 where there are not 52 bytes.
+// A fresh session. Returned is 0, or 15 where there are not as many bytes as a session has.
 #[unsafe(no_mangle)]
 pub extern "C" fn vl53l0x_fresh(session: &mut [u8]) -> u8
     ensures session_after { session.new ≡ placed session_size session.old (session_bytes fresh_session) }
     ensures value { result ≡ fresh_number session.old }
 {
-    if session.len() == 52 {
+    if session.len() == SESSION_SIZE {
         layout::put_session(session, driver::fresh());
         0
     } else {
@@ -25,8 +25,8 @@ pub extern "C" fn vl53l0x_fresh(session: &mut [u8]) -> u8
     }
 }
 
-// One record in, one outcome out. Returned is the outcome's number, or 17 where there are not 11 bytes for it.
-#[tactic(auto, using(layout::proofs::Images::fifty_two), unfolding(crate::specs::Exports::step_outcome, crate::specs::Exports::step_session, crate::specs::Exports::met, layout::specs::Layout::given_bytes))]
+// One record in, one outcome out. Returned is the outcome's number, or 254 where there are not as many bytes as an outcome has.
+#[tactic(auto, using(layout::proofs::Images::sized), unfolding(crate::specs::Exports::step_outcome, crate::specs::Exports::step_session, crate::specs::Exports::met, layout::specs::Layout::given_bytes))]
 #[unsafe(no_mangle)]
 pub extern "C" fn vl53l0x_step(session: &mut [u8], record: &[u8], outcome: &mut [u8]) -> u8
     ensures session_after { session.new ≡ step_session session.old «record».now outcome.old }
@@ -34,8 +34,8 @@ pub extern "C" fn vl53l0x_step(session: &mut [u8], record: &[u8], outcome: &mut 
     ensures value { result ≡ placed_number outcome.old (step_outcome session.old «record».now) }
     ensures record_kept { «record».exit.now ≡ «record».entry.now }
 {
-    if outcome.len() != 11 {
-        return 17;
+    if outcome.len() != OUTCOME_SIZE {
+        return NOT_PUT;
     }
     let Some(eight) = record.as_array() else {
         return layout::put_given(outcome, Given::Refused(Answer::SpareBytes));
@@ -62,8 +62,8 @@ fn outstanding_in(session: &[u8]) -> Given
     }
 }
 
-// The transfer that a waiting session has out. Returned is 16, 11 where no call waits, 15 where the session is ill-formed, or 17 where there are
-// not 11 bytes for the outcome.
+// The transfer that a waiting session has out. Returned is 255, 11 where no call waits, 15 where the session is ill-formed, or 254 where there
+// are not as many bytes as an outcome has.
 #[unsafe(no_mangle)]
 pub extern "C" fn vl53l0x_outstanding(session: &[u8], outcome: &mut [u8]) -> u8
     ensures outcome_after { outcome.new ≡ placed outcome_size outcome.old (outstanding_in session.now) }

@@ -3,6 +3,9 @@
 //! figures are stored beside this file; `-- --nocapture` prints them.
 
 mod bring_ups;
+#[allow(dead_code)]
+#[path = "../calls/mod.rs"]
+mod calls;
 mod longest;
 mod readings;
 mod restarts;

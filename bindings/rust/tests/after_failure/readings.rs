@@ -1,22 +1,19 @@
 //! Is the next distance right?
 
+use crate::calls::CALLS;
 use crate::rig::{Rig, AFTER, BEFORE, CONTINUOUS, MEANWHILE, SINGLE};
 use crate::{Count, Table, SEEDS};
 use std::collections::BTreeMap;
-use vl53l0x_session::{Answer, Call, GpioFunctionality, GpioPolarity};
+use vl53l0x_session::{Answer, Call};
 
 /// The calls that measure nothing and select no page, but for call 3 (settings.rs), after which the sensor may be at
 /// another address.
-const OTHERS: [Call; 8] = [
-    Call::WhoAmI,
-    Call::SetMeasurementTimingBudget(60_000),
-    Call::SetInterruptThresholdsMm(200, 400),
-    Call::GetInterruptThresholdsMm,
-    Call::SetGpioConfig(GpioFunctionality::NewSampleReady, GpioPolarity::ActiveHigh),
-    Call::ClearInterruptStatus,
-    Call::SetSignalRateLimit(0.5),
-    Call::GetMeasurementTimingBudget,
-];
+fn others() -> impl Iterator<Item = Call> {
+    CALLS.iter().copied().filter(|call| match call {
+        Call::WithAddress(_) | Call::SetAddress(_) | Call::StartContinuous(_) | Call::StopContinuous => false,
+        call => ![Call::ReadRangeMm, CONTINUOUS, SINGLE].contains(call),
+    })
+}
 
 /// What a caller may do before the next single reading, and how often that reading was right.
 #[derive(Default)]
@@ -113,7 +110,7 @@ pub fn after_other_calls(table: &mut Table) {
     let (mut done, mut same, mut right) = <(Count, Count, Count)>::default();
     for seed in SEEDS {
         let up = Rig::up(seed);
-        for call in OTHERS {
+        for call in others() {
             let mut whole = up.clone();
             let answer = whole.call(call);
             for (mut rig, _) in up.broken(call) {
@@ -123,7 +120,7 @@ pub fn after_other_calls(table: &mut Table) {
             }
         }
     }
-    table.title("each of calls 2 and 9 to 15 broken; then the same call");
+    table.title(&format!("each of calls 2 and 9 to {} broken; then the same call", CALLS.len()));
     table.always("answered as if nothing broke", done);
     table.always("and then all registers are as if nothing broke", same);
     table.always("and a single reading is right", right);

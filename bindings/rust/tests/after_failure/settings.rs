@@ -1,12 +1,13 @@
 //! Has the sensor taken what the next call has set?
 
+use crate::calls::{code, CALLS};
 use crate::rig::{Rig, AFTER, CONTINUOUS, SINGLE};
 use crate::{Count, Table, SEEDS};
 use std::collections::BTreeMap;
 use vl53l0x_session::{Answer, Call, GpioFunctionality, GpioPolarity};
 use vl53l0x_simulator::{Simulator, NOBODY_ANSWERS};
 
-/// The calls that set something. What breaks before them sets something else.
+/// The calls that set something. What breaks before them, of `CALLS`, sets something else.
 const SETTINGS: [Call; 5] = [
     Call::SetMeasurementTimingBudget(50_000),
     Call::SetInterruptThresholdsMm(100, 300),
@@ -15,23 +16,11 @@ const SETTINGS: [Call; 5] = [
     Call::SetGpioConfig(GpioFunctionality::OutOfWindow, GpioPolarity::ActiveHigh),
 ];
 
-const BROKEN: [Call; 15] = [
-    Call::WhoAmI,
-    Call::SetAddress(0x31),
-    Call::StartContinuous(0),
-    Call::StartContinuous(50),
-    Call::StopContinuous,
-    Call::ReadRangeMm,
-    CONTINUOUS,
-    SINGLE,
-    Call::SetMeasurementTimingBudget(60_000),
-    Call::SetInterruptThresholdsMm(200, 400),
-    Call::GetInterruptThresholdsMm,
-    Call::SetGpioConfig(GpioFunctionality::LevelLow, GpioPolarity::ActiveLow),
-    Call::ClearInterruptStatus,
-    Call::SetSignalRateLimit(0.5),
-    Call::GetMeasurementTimingBudget,
-];
+/// All calls but a bring-up, and call 4 in its other way.
+fn broken_calls() -> impl Iterator<Item = Call> {
+    let calls = CALLS.iter().copied().filter(|call| !matches!(call, Call::WithAddress(_)));
+    calls.chain([Call::StartContinuous(0)])
+}
 
 /// What a setting leaves in the sensor.
 fn set(call: Call, sensor: &Simulator) -> Vec<u8> {
@@ -64,7 +53,7 @@ pub fn the_next_setting(table: &mut Table) {
     let (mut lost, mut by_call) = (BTreeMap::<u8, Count>::new(), BTreeMap::<u8, Count>::new());
     let (mut thrown, mut by_hand, mut recovered) = <(Count, Count, Count)>::default();
     for seed in SEEDS {
-        for call in BROKEN {
+        for call in broken_calls() {
             let ready = ready_for(call, seed);
             for setting in SETTINGS {
                 let mut whole = ready.clone();
@@ -72,8 +61,8 @@ pub fn the_next_setting(table: &mut Table) {
                 let taken = set(setting, &whole.sensor);
                 for (rig, _) in ready.broken(call) {
                     if let Some(is_lost) = is_lost(rig.clone(), setting, &taken) {
-                        lost.entry(setting.record()[1]).or_default().add(is_lost);
-                        by_call.entry(call.record()[1]).or_default().add(is_lost);
+                        lost.entry(code(setting)).or_default().add(is_lost);
+                        by_call.entry(code(call)).or_default().add(is_lost);
                     }
                     for (rig, count) in [
                         (rig.clone().after(SINGLE), &mut thrown),
@@ -86,7 +75,7 @@ pub fn the_next_setting(table: &mut Table) {
             }
         }
     }
-    table.title("each of calls 2 to 15 broken; then a setting that is Done");
+    table.title(&format!("each of calls 2 to {} broken; then a setting that is Done", CALLS.len()));
     for (code, count) in &lost {
         table.at_times(&format!("not taken by the sensor: call {code}"), *count);
     }

@@ -2,6 +2,8 @@
 
 use hal::i2c::I2c;
 use std::num::NonZeroU8;
+use vl53l0x_session::exported::TRANSFER;
+use vl53l0x_session::Outcome;
 use vl53l0x_simulator::Simulator;
 
 /// The sensor's address after power-up.
@@ -17,9 +19,9 @@ pub struct Exchange {
 
 impl Exchange {
     /// The transfer, as the exported functions write it.
-    pub fn outcome(&self) -> [u8; 11] {
-        let mut outcome = [0; 11];
-        outcome[..3].copy_from_slice(&[16, self.address, self.written.len() as u8]);
+    pub fn outcome(&self) -> [u8; Outcome::SIZE] {
+        let mut outcome = [0; Outcome::SIZE];
+        outcome[..3].copy_from_slice(&[TRANSFER, self.address, self.written.len() as u8]);
         outcome[3..][..self.written.len()].copy_from_slice(&self.written);
         outcome[10] = self.reads as u8;
         outcome

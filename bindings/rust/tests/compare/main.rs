@@ -14,6 +14,10 @@ mod sides;
 mod tally;
 mod traps;
 
+#[allow(dead_code)]
+#[path = "../calls/mod.rs"]
+mod calls;
+
 // From the repository's oracle: the calls as records and on the Rust driver with its answers by number, its panics as
 // places, and records that are refused.
 #[allow(dead_code)]

@@ -5,14 +5,14 @@ use crate::call::{self, Answer, Call};
 use crate::refused::{Refusing, State};
 use crate::tally::Tally;
 use vl53l0x::inner::Fields;
-use vl53l0x_session::exported;
+use vl53l0x_session::{exported, Outcome, Session};
 use vl53l0x_simulator::Simulator;
 
 pub struct Sides<'a> {
     pub sensor: Simulator,
     /// The fields of the Rust driver; none while it is not up.
     pub fields: Option<Fields>,
-    session: [u8; 52],
+    session: [u8; Session::SIZE],
     /// The records between the others that the exported functions have to refuse.
     pub refusing: Refusing,
     tally: &'a mut Tally,
@@ -23,9 +23,9 @@ pub struct Sides<'a> {
 impl<'a> Sides<'a> {
     /// Two drivers that are not up.
     pub fn new(what: impl Into<String>, sensor: Simulator, tally: &'a mut Tally) -> Self {
-        let mut session = [0xA5; 52];
+        let mut session = [0xA5; Session::SIZE];
         assert_eq!(exported::fresh(&mut session), 0);
-        assert_eq!(session, [0; 52]);
+        assert_eq!(session, [0; Session::SIZE]);
         Sides { sensor, fields: None, session, refusing: Refusing::Nothing, tally, what: what.into() }
     }
 
@@ -73,7 +73,14 @@ impl<'a> Sides<'a> {
 
     /// A session that waits holds the fields that it had, a bring-up none; the call; its transfers; and says what is
     /// out.
-    fn waits(&self, what: impl Fn() -> String, call: Call, before: [u8; 7], transfers: u32, outcome: [u8; 11]) {
+    fn waits(
+        &self,
+        what: impl Fn() -> String,
+        call: Call,
+        before: [u8; 7],
+        transfers: u32,
+        outcome: [u8; Outcome::SIZE],
+    ) {
         let [_, code, a3, a2, a1, a0, b1, b0] = call.record();
         let held = if call.is_bring_up() { [0; 7] } else { before };
         same(&what, "the fields", part(&self.session, 0), held);
@@ -92,14 +99,14 @@ impl<'a> Sides<'a> {
         }
     }
 
-    fn step(&mut self, record: [u8; 8]) -> [u8; 11] {
-        let mut outcome = [0xA5; 11];
+    fn step(&mut self, record: [u8; 8]) -> [u8; Outcome::SIZE] {
+        let mut outcome = [0xA5; Outcome::SIZE];
         assert_eq!(exported::step(&mut self.session, &record, &mut outcome), outcome[0]);
         outcome
     }
 
-    fn outstanding(&self) -> [u8; 11] {
-        let mut outcome = [0xA5; 11];
+    fn outstanding(&self) -> [u8; Outcome::SIZE] {
+        let mut outcome = [0xA5; Outcome::SIZE];
         assert_eq!(exported::outstanding(&self.session, &mut outcome), outcome[0]);
         outcome
     }
@@ -111,23 +118,26 @@ fn same<const N: usize>(what: impl Fn() -> String, part: &str, exported: [u8; N]
 }
 
 /// N bytes of a session.
-fn part<const N: usize>(session: &[u8; 52], from: usize) -> [u8; N] {
+fn part<const N: usize>(session: &[u8; Session::SIZE], from: usize) -> [u8; N] {
     session[from..][..N].try_into().expect("a part of a session")
 }
 
 /// An answer as an outcome.
-fn answered(Answer(number, value): Answer, transfers: u32) -> [u8; 11] {
-    let ([v0, v1, v2, v3], [t0, t1, t2, t3]) = (value.to_le_bytes(), transfers.to_le_bytes());
-    [number, v0, v1, v2, v3, t0, t1, t2, t3, 0, 0]
+fn answered(Answer(number, value): Answer, transfers: u32) -> [u8; Outcome::SIZE] {
+    let mut outcome = [0; Outcome::SIZE];
+    outcome[0] = number;
+    outcome[1..5].copy_from_slice(&value.to_le_bytes());
+    outcome[21..].copy_from_slice(&transfers.to_le_bytes());
+    outcome
 }
 
-fn refusal(number: u8) -> [u8; 11] {
+fn refusal(number: u8) -> [u8; Outcome::SIZE] {
     answered(Answer(number, 0), 0)
 }
 
 /// A session in which no call waits.
-fn at_rest(held: [u8; 7]) -> [u8; 52] {
-    let mut session = [0; 52];
+fn at_rest(held: [u8; 7]) -> [u8; Session::SIZE] {
+    let mut session = [0; Session::SIZE];
     session[..7].copy_from_slice(&held);
     session
 }

@@ -1,6 +1,7 @@
 //! What has been compared, and whether that was everything.
 
 use crate::call::{Answer, Call};
+use crate::calls;
 use std::collections::BTreeMap;
 use std::fmt::{self, Display, Formatter};
 
@@ -13,7 +14,7 @@ pub struct Tally {
 }
 
 /// Every answer of every call that the Rust driver can give: code, answers, places.
-const POSSIBLE: [(u8, &[u8], &[u32]); 15] = [
+const POSSIBLE: &[(u8, &[u8], &[u32])] = &[
     (1, &[0, 2, 3, 4], &[2, 3, 4, 5, 6, 7, 8, 9]),
     (2, &[0, 3], &[]),
     (3, &[0, 3, 5], &[]),
@@ -40,8 +41,10 @@ impl Tally {
 
     /// Fails unless each possible answer of each call was met, and no other.
     pub fn assert_complete(&self) {
+        let codes: Vec<u8> = POSSIBLE.iter().map(|(code, ..)| *code).collect();
+        assert_eq!(codes, calls::codes(), "the calls");
         let mut possible = Vec::new();
-        for (code, answers, places) in POSSIBLE {
+        for &(code, answers, places) in POSSIBLE {
             possible.extend(answers.iter().map(|number| (code, *number, 0)));
             possible.extend(places.iter().map(|place| (code, 8, *place)));
         }
@@ -53,7 +56,7 @@ impl Tally {
 /// A line for each call with the numbers of its answers, and the sums.
 impl Display for Tally {
     fn fmt(&self, f: &mut Formatter) -> fmt::Result {
-        for (code, ..) in POSSIBLE {
+        for &(code, ..) in POSSIBLE {
             let mut parts = Vec::new();
             for ((_, number, place), count) in self.answers.iter().filter(|((of, ..), _)| *of == code) {
                 let place = if *number == 8 { format!(" at place {place}") } else { String::new() };

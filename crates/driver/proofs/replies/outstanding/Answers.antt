@@ -2,14 +2,9 @@
 use mathlib.Core.Path.{refl, sym, ap, ◌∙◌}
 use Rattle.std.proofs.Common.{Some, eq-eqb}
 use Rattle.driver.specs.Replies.{outstanding_of}
-use Rattle.driver.proofs.Meets.{waiting_sound, out_ill, out_sent, ready_at}
+use Rattle.driver.proofs.Meets.{out_ill, out_sent}
 use Rattle.driver.proofs.replies.outstanding.Goals as goal
 use Rattle.driver.proofs.replies.outstanding.Goals.{then-ill_formed-via-then-ill_formed, then-ill_formed-via-else-ill_formed+then-s-eq0}
-
-pub invariant_of-transfer_of : goal.invariant_of-transfer_of
-invariant_of-transfer_of c =
-    let s = c.args.s in
-    record { ready = ready_at s _ c.instruction_at.ensures (waiting_sound s (sym c.if-ill_formed.ensures) c.if-s-eq0.false) }
 
 pub returns-then-ill_formed : goal.returns-then-ill_formed
 unfolding outstanding_of
@@ -23,4 +18,4 @@ returns-then-ill_formed c =
 pub returns : goal.returns
 returns c =
     let s = c.args.s in
-    ap Some (rw c.instruction_at.ensures at c.transfer_of.ensures) ∙ out_sent s (sym c.if-ill_formed.ensures) c.if-s-eq0.false
+    ap Some (rw c.instruction_at-at.ensures at c.send_of.ensures) ∙ out_sent s (sym c.if-ill_formed.ensures) c.if-s-eq0.false

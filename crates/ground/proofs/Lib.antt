@@ -1,0 +1,2 @@
+-- tests, branches and places in lists
+pub mod Facts
