@@ -6,8 +6,8 @@
 /// What is returned, and byte 0 of the outcome, where that is a transfer.
 pub const TRANSFER: u8 = 255;
 
-/// What is returned where the outcome has another length than [`Outcome::SIZE`](crate::Outcome::SIZE). Neither is a
-/// failure code of a bus, which never stands in byte 0 of an outcome.
+/// What is returned where the outcome has another length than [`Outcome::SIZE`](crate::Outcome::SIZE). A bus may fail
+/// with the codes 254 and 255, which is something else: a failure code never stands in byte 0 of an outcome.
 pub const NOT_PUT: u8 = 254;
 
 extern "C" {

@@ -1,4 +1,4 @@
-// The instructions of calls 2 to 15.
+// The instructions of the calls after the bring-up.
 ghost use Rattle.std.specs.Prelude.{◌≡◌};
 ghost use Rattle.session.specs.Calls.{who_am_i_call, set_address_call, start_continuous_call, stop_continuous_call, read_range_mm_call, read_range_continuous_call, read_range_single_call, set_budget_call, set_thresholds_call, get_thresholds_call, set_gpio_config_call, clear_interrupt_status_call, set_signal_rate_limit_call, get_budget_call};
 ghost use Rattle.calls.specs.Calls.{step_of};

@@ -16,6 +16,7 @@ use Rattle.session.specs.Steps.{op_of}
 use Rattle.session.specs.Calls.{program_of}
 use Rattle.session.specs.Machine.{sent, context_of, sending, kept_of, giving, conclude, arrive, decide, react, to_reply}
 use Rattle.calls.specs.Calls.{instruction_at, steps_in}
+use Rattle.ground.proofs.Facts.{cond_case}
 use Rattle.shapes.specs.declared.Shape.{Shape}
 use Rattle.shapes.specs.Shapes.{shape_of, settled, keeps, failure_kept, kept_by}
 use Rattle.programs.specs.Programs.{end_of}
@@ -98,7 +99,7 @@ ends s = ends_as ((program_of s.code).final (context_of s)) s
 -- what is kept of a reply does not change the count
 pub sound_kept : (x : Shape) (s : Session) (f : ℕ) (bs : List ℕ) → Sound s → Sound (kept_by x s f bs)
 unfolding kept_by
-sound_kept x s f bs h = record { transfers = h.transfers }
+sound_kept x s f bs h = cond_case Sound (keeps x.kind) (λ e. record { transfers = h.transfers }) (λ e. h)
 
 -- what is known of the session for a move is known for its action
 pub action_sound : (w : Move) (i : Instruction) (s : Session) → SoundIf (leads w) s → SoundIf (acts (action_of w i s)) s

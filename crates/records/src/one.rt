@@ -61,8 +61,8 @@ fn decision_of(s: Session, met: Record) -> Decision
     }
 }
 
-// A record goes up as a decision and down again as an action: each kind of record makes its tests in a function of its own, and what they come to
-// is carried out in one place, for all three. What is called from one place is compiled into its caller, so that a step becomes one piece of code.
+// The tests of a record return a decision, and only here it is carried out, for all three kinds of record. What is called from one place is compiled
+// into its caller, so that a whole step becomes one piece of code.
 pub fn step(s: Session, record: [u8; 8]) -> Outcome
     ensures { result ≡ outcome_of (step_def s (record_in «record»)) }
 {

@@ -49,8 +49,7 @@ range_ends c c' o = go c.failed c'.failed o.0
 ends_alike : (code : ℕ) → EndsAlike code (program_of code)
 unfolding programs ends_by
 ends_alike =
-    of_table EndsAlike (λ k c c' o. tt)
-    (λ c c' o. tt, (λ c c' o. tt, (λ c c' o. tt, (λ c c' o. tt, (λ c c' o. tt, (λ c c' o. tt, (range_ends, (range_ends, (range_ends, (λ c c' o. tt, (λ c c' o. tt, (λ c c' o. tt, (λ c c' o. tt, (λ c c' o. tt, (λ c c' o. tt, (λ c c' o. tt, tt))))))))))))))))
+    of_table EndsAlike (λ k c c' o. tt) (search range_ends)
 
 all_ok : (code : ℕ) → walk (step_ok (looked_at code) (arrival code) []) 0 (program_of code).steps ≡ true
 unfolding programs tuning course_rows ends_by

@@ -5,8 +5,8 @@ use mathlib.Core.List.{List, [], ◌∷◌}
 use Prim.Native.Nat.{ℕ, zero, suc, ◌+◌, ◌≤◌, min}
 use native.Mathlib.Nat.{min-le_left, min-le_right}
 use native.Mathlib.Omega.{arith}
-use lib.Dec.{leb}
-use borrow.Author.Tests.{leb-true}
+use lib.Dec.{eqb}
+use borrow.Author.Tests.{eqb-true}
 use lib.ListN.{get_or, drop}
 use Rattle.session.specs.Instructions.{Op}
 use Rattle.session.specs.Calls.{ops_of, tuning, programs, program_of, top_code, arguments_ok}
@@ -29,11 +29,15 @@ leasts (op ∷ ops) = push (over_of op) (leasts ops)
 abbrev pub least : List Op → ℕ
 least ops = get_or (leasts ops) 0 0
 
-pub floor_law : (code a b : ℕ) → arguments_ok code a b ≡ true → floor_in code ≤ least (ops_of (program_of code))
+-- the claim's floor is the least that the call's instructions can send
+floor_is_least : (code a b : ℕ) → arguments_ok code a b ≡ true → floor_in code ≡ least (ops_of (program_of code))
 unfolding program_of programs floor_in tuning
-floor_law code a b e =
-    let test : ℕ → Bool = λ n. leb (floor_in n) (least (ops_of (program_of n))) in
-    leb-true _ _ (by_code_lem (λ n. test n ≡ true) (below_pass test 1 top_code refl) code a b e)
+floor_is_least code a b e =
+    let test : ℕ → Bool = λ n. eqb (floor_in n) (least (ops_of (program_of n))) in
+    eqb-true _ _ (by_code_lem (λ n. test n ≡ true) (below_pass test 1 top_code refl) code a b e)
+
+pub floor_law : (code a b : ℕ) → arguments_ok code a b ≡ true → floor_in code ≤ least (ops_of (program_of code))
+floor_law code a b e = omega (arith, floor_is_least code a b e)
 
 leasts_drop : (n : ℕ) (ops : List Op) → get_or (leasts ops) n 0 ≡ least (drop n ops)
 leasts_drop zero ops = refl

@@ -101,7 +101,7 @@ kept_ok code k i is =
     eqb row.0 (slot_of (op_of i))
     && (eqb row.1 (count_of (op_of i))
     && (same_bool (reads_range_at code k) (is_range (op_of i))
-    && (not (eqb code 1) || (not (finder (op_of i)) || gives_budget code k))))
+    && (not (finder (op_of i)) || gives_budget code k)))
 
 all_ok : (code : ℕ) → walk (kept_ok code) 0 (program_of code).steps ≡ true
 unfolding programs tuning kept_rows
@@ -148,7 +148,7 @@ keeps_the_rest s f bs u =
     rw (met_at s s.code s.step i is f bs refl refl u at)
     (cond_case (Keeps s f bs) (stray (send_of (op_of i) (context_of s)) f bs) (λ e. tt)
     (λ e. ends (op_of i) (react (op_of i) (program_of s.code) s (to_reply f bs)) carried failed
-    (λ one off. budget_left (op_of i) (to_reply f bs) s.carried s.found_budget (unfilled (op_of i) s.code s.step one off t₃.1))
+    (λ off. budget_left (op_of i) (to_reply f bs) s.carried s.found_budget (unfilled (op_of i) s.code s.step off t₃.1))
     (reacts (op_of i) (program_of s.code) s (to_reply f bs)))))
   where
     by_reply : (op : Op) (g : ℕ) → (row_at s.code s.step kept_rows).0 ≡ slot_of op → (row_at s.code s.step kept_rows).1 ≡ count_of op
@@ -156,8 +156,8 @@ keeps_the_rest s f bs u =
     by_reply op zero a b = bytes_kept op s.carried bs ∙ rw (← a, ← b) refl ∙ sym (row_is s.code s.step kept_rows s.carried bs)
     by_reply op (suc e) a b = nothing_kept op s.carried e ∙ rw (ne_eqb (suc e) 0 (λ z. omega (arith, z))) refl
 
-    unfilled : (op : Op) (code k : ℕ) → code ≡ 1 → gives_budget code k ≡ false → not (eqb code 1) || (not (finder op) || gives_budget code k) ≡ true → finder op ≡ false
-    unfilled op code k one off h = go (finder op) (rw (one, rw one at off) at h)
+    unfilled : (op : Op) (code k : ℕ) → gives_budget code k ≡ false → not (finder op) || gives_budget code k ≡ true → finder op ≡ false
+    unfilled op code k off h = go (finder op) (rw off at h)
       where
         go : (b : Bool) → not b || false ≡ true → b ≡ false
         go true h = sym h
@@ -166,9 +166,9 @@ keeps_the_rest s f bs u =
     ends : (op : Op) (o : Outcome)
         → kept_bytes op (to_reply f bs) s.carried ≡ cond (eqb f 0) (kept_at s.code s.step kept_rows s.carried bs) s.carried
         → kept_failure op (to_reply f bs) s.failed ≡ cond (reads_range_at s.code s.step) f s.failed
-        → (s.code ≡ 1 → gives_budget s.code s.step ≡ false → kept_budget op (to_reply f bs) s.carried s.found_budget ≡ s.found_budget)
+        → (gives_budget s.code s.step ≡ false → kept_budget op (to_reply f bs) s.carried s.found_budget ≡ s.found_budget)
         → Carries (kept_of s op (to_reply f bs)) o → Keeps s f bs o
-    ends op (sent t s') c g b x = (x.0 ∙ c, x.1 ∙ g, λ one off. x.2 ∙ b one off)
+    ends op (sent t s') c g b x = (x.0 ∙ c, x.1 ∙ g, λ off. x.2 ∙ b off)
     ends op (answered a n s') c g b x = tt
     ends op (refused a s') c g b x = tt
     ends op (broken s') c g b x = tt

@@ -8,8 +8,8 @@ use lib.ListN.{length}
 use Rattle.session.specs.Bus.{Answer}
 use Rattle.session.specs.Machine.{Session, Outcome, sent, answered, refused, broken, ill_formed}
 use Rattle.session.specs.Records.{Record, records_of, is_whole}
-use Rattle.session.specs.History.{step_def, Entry, Run, stopped, completed, taking, run_from, run_records, run_def, got_of, session_of, session_after, Genuine, in_order}
-use Rattle.session.specs.Claim1.{RunEnds, spare_bytes, ill_formed_given, ill_formed_met, all_run}
+use Rattle.session.specs.History.{step_def, Entry, Run, stopped, taking, run_from, run_records, run_def, got_of, session_of, session_after, Genuine, in_order}
+use Rattle.session.specs.Claim1.{RunEnds, spare_bytes, ill_formed_given, ill_formed_met, all_run, completed}
 use Rattle.ground.proofs.Facts.{cond_case}
 use Rattle.session.proofs.Ill.{IllOf, ill_is}
 

@@ -25,7 +25,7 @@ use Rattle.session.specs.Script.{Script, done, send, Raw, data_of, is_clean, cut
 use Rattle.session.specs.RustFn.{Fn, ◌>>◌, Ok, panic, if, set_self_budget, write_16bit}
 use Rattle.session.specs.RustBringUp.{method, flag, calls, rust}
 use Rattle.session.specs.Claim3.{good1}
-use Rattle.session.specs.SetBudget.{good_replies, budget_reads, made_of, sends_all, by_result, trace_of_call9, RustSetsBudget, SessionSetsBudget}
+use Rattle.session.specs.SetBudget.{good_replies, read_transfers, made_of, sends_all, by_result, trace_of_call9, RustSetsBudget, SessionSetsBudget}
 use Rattle.session.proofs.Once.{number as place_no, final_macro, spare_sum, total_clocks}
 use Rattle.session.proofs.SixReads.{six, six_same}
 use Rattle.session.proofs.BudgetCalls.{tested, set_is}
@@ -127,7 +127,7 @@ module _ (d : Driver) (budget : ℕ) (bytes : List ℕ) (ignored : ℕ) where
   regs = registers_of bytes
 
   after_reads : play (method flag d (six (λ r. by_word budget (word r budget)))) (good_replies bytes ignored)
-      ≡ sends_all (take (made (entries_of regs) 6) (budget_reads d.address)) (by_result d budget (word regs budget))
+      ≡ sends_all (take (made (entries_of regs) 6) (read_transfers d.address)) (by_result d budget (word regs budget))
   unfolding entries_of less_place final_range_word first_place
   after_reads =
       read_on _ _ _ _ refl
@@ -147,7 +147,7 @@ module _ (d : Driver) (budget : ℕ) (bytes : List ℕ) (ignored : ℕ) where
   -- below 20,000 nothing is sent
   from_the_test : (t : Bool)
       → play (method flag d (if t (Ok false) (six (λ r. tested r budget)))) (good_replies bytes ignored)
-      ≡ sends_all (take (cond t 0 (made_of regs 6)) (budget_reads d.address)) (by_result d budget (cond t (Fails NoWord.NoTime) (word regs budget)))
+      ≡ sends_all (take (cond t 0 (made_of regs 6)) (read_transfers d.address)) (by_result d budget (cond t (Fails NoWord.NoTime) (word regs budget)))
   unfolding play first_place
   from_the_test true = refl
   from_the_test false = ap (λ m. play (method flag d m) (good_replies bytes ignored)) (words_are budget) ∙ after_reads

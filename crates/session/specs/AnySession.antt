@@ -156,7 +156,7 @@ abbrev pub Keeps : Session → ℕ → List ℕ → Outcome → Type 0
 Keeps s f bs (sent t s') =
     (s'.carried ≡ cond (eqb f 0) (kept_at s.code s.step kept_rows s.carried bs) s.carried)
     × (s'.failed ≡ cond (reads_range_at s.code s.step) f s.failed)
-    × (s.code ≡ 1 → gives_budget s.code s.step ≡ false → s'.found_budget ≡ s.found_budget)
+    × (gives_budget s.code s.step ≡ false → s'.found_budget ≡ s.found_budget)
 Keeps s f bs (answered x n s') = Unit {0}
 Keeps s f bs (refused x s') = Unit {0}
 Keeps s f bs (broken s') = Unit {0}

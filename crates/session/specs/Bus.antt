@@ -49,8 +49,7 @@ abbrev pub clean_from : ℕ → ℕ → ℕ
 clean_from zero n = n
 clean_from (suc e) n = 0
 
--- SCOPE 4.2: the detector wait is met when 0x83 is not 0, the status wait when one of the low three bits of 0x13 is set,
--- the start wait when bit 0 of 0x00 is clear
+-- SCOPE 4.2: the register that a wait reads
 abbrev pub wait_register : Condition → ℕ
 wait_register Condition.DetectorReady = 0x83
 wait_register Condition.StatusReady = 0x13
@@ -62,36 +61,37 @@ wait_limit code Condition.DetectorReady = 65535
 wait_limit code Condition.StatusReady = 10000
 wait_limit code Condition.Started = 10000
 
--- the condition is unmet
+-- SCOPE 4.2: a wait's condition is unmet. The detector wait is met when 0x83 is not 0, the status wait when one of the low three bits of 0x13 is
+-- set, the start wait when bit 0 of 0x00 is clear
 unfoldable pub idle_on : Condition → List ℕ → Bool
 idle_on Condition.DetectorReady bs = eqb (byte 0 bs) 0
 idle_on Condition.StatusReady bs = eqb (byte 0 bs % 8) 0
 idle_on Condition.Started bs = not (eqb (byte 0 bs % 2) 0)
 
 -- SCOPE 9.1: the number of each answer, and its values, one today (SCOPE 2.3)
-abbrev pub shown : Answer → ℕ × List ℕ
-shown (Answer.Done value) = (0, value ∷ [])
-shown Answer.False = (1, 0 ∷ [])
-shown (Answer.InvalidDevice byte) = (2, byte ∷ [])
-shown (Answer.BusError code) = (3, code ∷ [])
-shown Answer.Timeout = (4, 0 ∷ [])
-shown (Answer.InvalidAddress address) = (5, address ∷ [])
-shown Answer.InvalidArgument = (6, 0 ∷ [])
-shown Answer.WouldBlock = (7, 0 ∷ [])
-shown (Answer.Panic place) = (8, place ∷ [])
-shown Answer.NotUp = (9, 0 ∷ [])
-shown Answer.CallWaits = (10, 0 ∷ [])
-shown Answer.NoCallWaits = (11, 0 ∷ [])
-shown Answer.StrayByte = (12, 0 ∷ [])
-shown Answer.IllFormedRecord = (13, 0 ∷ [])
-shown Answer.SpareBytes = (14, 0 ∷ [])
-shown Answer.IllFormedSession = (15, 0 ∷ [])
+abbrev pub number_and_values : Answer → ℕ × List ℕ
+number_and_values (Answer.Done value) = (0, value ∷ [])
+number_and_values Answer.False = (1, 0 ∷ [])
+number_and_values (Answer.InvalidDevice byte) = (2, byte ∷ [])
+number_and_values (Answer.BusError code) = (3, code ∷ [])
+number_and_values Answer.Timeout = (4, 0 ∷ [])
+number_and_values (Answer.InvalidAddress address) = (5, address ∷ [])
+number_and_values Answer.InvalidArgument = (6, 0 ∷ [])
+number_and_values Answer.WouldBlock = (7, 0 ∷ [])
+number_and_values (Answer.Panic place) = (8, place ∷ [])
+number_and_values Answer.NotUp = (9, 0 ∷ [])
+number_and_values Answer.CallWaits = (10, 0 ∷ [])
+number_and_values Answer.NoCallWaits = (11, 0 ∷ [])
+number_and_values Answer.StrayByte = (12, 0 ∷ [])
+number_and_values Answer.IllFormedRecord = (13, 0 ∷ [])
+number_and_values Answer.SpareBytes = (14, 0 ∷ [])
+number_and_values Answer.IllFormedSession = (15, 0 ∷ [])
 
 abbrev pub number_of : Answer → ℕ
-number_of x = (shown x).0
+number_of x = (number_and_values x).0
 
 abbrev pub values_of : Answer → List ℕ
-values_of x = (shown x).1
+values_of x = (number_and_values x).1
 
 -- SCOPE 6: while the session is not up all three are 0
 abbrev pub absent : Driver

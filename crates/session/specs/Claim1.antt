@@ -6,7 +6,7 @@ use Rattle.session.specs.Bus.{Transfer, Answer, byte, bytes_of, zero_from, numbe
 use Rattle.session.specs.Machine.{Session, Outcome, sent, answered, refused, broken, resting, outstanding, ill_formed}
 use Rattle.session.specs.Records.{Record, call, records_of}
 use Rattle.session.specs.Refusals.{refusals, first_match, Underway, at_once, first_answer}
-use Rattle.session.specs.History.{step_def, Entry, Run, stopped, completed, session_after, Genuine, in_order}
+use Rattle.session.specs.History.{step_def, Entry, calls_in, answers_in, replies_in, transfers_in, refused_in, Run, session_after, Genuine, in_order}
 
 -- SCOPE 4.1: 1 to 7 bytes to be written, and a read length of 0, 1, 2 or 6
 abbrev pub is_length : ℕ → Bool
@@ -84,12 +84,27 @@ LeavesNone (answered x n s) = eqb (number_of x) 0 ≡ false → s.driver ≡ abs
 LeavesNone (refused x s) = Unit {0}
 LeavesNone (broken s) = Unit {0}
 
+-- SCOPE 8.2: 14 and 15 end the run with the session as it was given and all counts 0
+abbrev pub ended_at_once : Answer → Session → Run
+ended_at_once x s =
+    record { answer = x; session = s; counts = record { calls = 0; answers = 0; replies = 0; transfers = 0; refused = 0 }; history = [] }
+
+-- SCOPE 8.1: at the end stand answer 0, the session and the five counts
+abbrev pub completed : Session → List Entry → Run
+completed s h =
+    record {
+      answer = Answer.Done 0;
+      session = s;
+      counts = record { calls = calls_in h; answers = answers_in h; replies = replies_in h; transfers = transfers_in h; refused = refused_in h };
+      history = h;
+    }
+
 -- a slice of records, from any session. 14 for spare bytes; 15 if the session is ill-formed at the start or where a record meets it;
 -- else every record has what it gets
 pub data RunEnds (s : Session) (bytes : List ℕ) : Run → Type 0 where
-  spare_bytes : (length bytes % 8 ≡ 0 → ⊥) → RunEnds s bytes (stopped Answer.SpareBytes s)
-  ill_formed_given : length bytes % 8 ≡ 0 → ill_formed s ≡ true → RunEnds s bytes (stopped Answer.IllFormedSession s)
+  spare_bytes : (length bytes % 8 ≡ 0 → ⊥) → RunEnds s bytes (ended_at_once Answer.SpareBytes s)
+  ill_formed_given : length bytes % 8 ≡ 0 → ill_formed s ≡ true → RunEnds s bytes (ended_at_once Answer.IllFormedSession s)
   ill_formed_met : length bytes % 8 ≡ 0 → (h : List Entry) (r : Record) (rest : List Record) → in_order h (r ∷ rest) ≡ records_of bytes
-      → Genuine s h → ill_formed (session_after s h) ≡ true → RunEnds s bytes (stopped Answer.IllFormedSession s)
+      → Genuine s h → ill_formed (session_after s h) ≡ true → RunEnds s bytes (ended_at_once Answer.IllFormedSession s)
   all_run : length bytes % 8 ≡ 0 → ill_formed s ≡ false → (h : List Entry) → in_order h [] ≡ records_of bytes → Genuine s h
       → RunEnds s bytes (completed (session_after s h) h)

@@ -96,10 +96,6 @@ pub record Run : Type 0 where
 abbrev pub stopped : Answer → Session → Run
 stopped x s = record { answer = x; session = s; counts = counts_of []; history = [] }
 
--- SCOPE 8.1: at the end of the list stand answer 0, the session and the five counts
-abbrev pub completed : Session → List Entry → Run
-completed s h = record { answer = Answer.Done 0; session = s; counts = counts_of h; history = h }
-
 abbrev pub taking : Outcome → Session → List Entry → Record → (Session → List Entry → Run) → Run
 taking (sent t s) given h r k = k s (record { what = r; got = transfer t } ∷ h)
 taking (answered x n s) given h r k = k s (record { what = r; got = answer x n } ∷ h)
@@ -108,7 +104,7 @@ taking (broken s) given h r k = stopped Answer.IllFormedSession given
 
 -- SCOPE 8.1: each record meets the session that the one before it left. SCOPE 8.2: 15 met anywhere gives back the session given to the run
 unfoldable pub run_from : Session → List Record → Session → List Entry → Run
-run_from given [] s h = completed s h
+run_from given [] s h = record { answer = Answer.Done 0; session = s; counts = counts_of h; history = h }
 run_from given (r ∷ rs) s h = taking (step_def s r) given h r (run_from given rs)
 
 -- the session is looked at before any record, so also where the list is empty

@@ -9,8 +9,8 @@ pub mod RustFn
 pub mod RustClocks
 pub mod RustCalls
 pub mod RustBringUp
--- runs and their history. From the machine below these and the demands have what a record gives a session, and names for a fresh session, one at
--- rest, an ill-formed one and the transfer that is out
+-- runs and their history. What a record gives a session is the machine's, below; so are the names for a fresh session, one at rest, an ill-formed
+-- one and the transfer that is out
 pub mod History
 -- and the three demands
 pub mod Claim1

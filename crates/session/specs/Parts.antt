@@ -167,6 +167,6 @@ reads_range_at code step = (eqb code 6 && eqb step 1) || (eqb code 7 && eqb step
 abbrev pub clears_at : ℕ → ℕ → Bool
 clears_at code step = eqb code 6 && leb 2 step
 
--- the last of a bring-up's first budget reads, after which the budget is kept too
+-- the sixth budget read of calls 1 and 15, which finds the budget: it is kept too
 abbrev pub gives_budget : ℕ → ℕ → Bool
-gives_budget code step = eqb code 1 && eqb step 134
+gives_budget code step = (eqb code 1 && eqb step 134) || (eqb code 15 && eqb step 5)

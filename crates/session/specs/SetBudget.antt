@@ -30,8 +30,8 @@ good_replies bytes ignored =
     ∷ []
 
 -- SCOPE 5.3: the six reads
-abbrev pub budget_reads : ℕ → List Transfer
-budget_reads address =
+abbrev pub read_transfers : ℕ → List Transfer
+read_transfers address =
     transfer_of address (0x01 ∷ []) 1
     ∷ transfer_of address (0x51 ∷ []) 2
     ∷ transfer_of address (0x71 ∷ []) 2
@@ -64,7 +64,7 @@ by_result d budget (Err (NoWord.Panic p)) = ends (Answer.Panic (place_number p))
 -- the trace of call 9. SCOPE 5.4: it counts DSS as 2 × MSRC's time + 690
 unfoldable pub trace_of_call9 : Driver → ℕ → List ℕ → Trace
 trace_of_call9 d budget bytes =
-    sends_all (take (reads_made (registers_of bytes) budget) (budget_reads d.address))
+    sends_all (take (reads_made (registers_of bytes) budget) (read_transfers d.address))
     (by_result d budget (set_budget (registers_of bytes) (record { 0 = budget }) DssTerm.Once))
 
 -- lib.rs's function has this trace, whatever the fields, the budget and the bytes

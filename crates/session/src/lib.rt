@@ -25,8 +25,8 @@ pub struct Driver {
 // A driver and the call that waits for a reply of the bus, if there is one.
 // `code` 0: no call waits. `a` and `b` are its arguments, `step` its place in the list of its
 // instructions, `idle` the idle reads of the wait it stands at, `transfers` those made so far.
-// `failed` is the failure code of its range read, `found_budget` the budget that its first six budget reads
-// gave, `carried` the reply bytes that it has kept, raw.
+// `failed` is the failure code of its range read, `found_budget` the budget that its first six budget
+// reads gave, which calls 1 and 15 find, `carried` the reply bytes that it has kept, raw.
 // The carried bytes are 24 because memory is fixed, and each call has slots of its own among them.
 // `code` and `failed` are numbers, where 0 says that there is none, since callers in C hand in any: answer 15 judges them, and not a type.
 #[derive(Clone, Copy)]
@@ -160,7 +160,7 @@ pub enum Instruction {
     WritePolarity,
     // Read the status once: no reading is ready, or go on.
     ReadStatus,
-    // One of the six budget reads, by its number and the slot of the first of their bytes.
+    // One of the first five budget reads, by its number and the slot of the first of their bytes.
     ReadTiming(u8, u8),
     // The sixth of the budget reads from slot 8 on: it finds the budget that they amount to.
     FindBudget,

@@ -44,7 +44,7 @@ settled leap = Verdict.Leap
 settled (stop x) = Verdict.Stop (stop_answer x)
 settled (test b v w) = cond b (settled v) (settled w)
 
--- WHAT IS KEPT OF A REPLY. The bytes of a good reply to a read
+-- WHAT IS KEPT OF A REPLY. Is anything kept?
 unfoldable pub keeps : Kind → Bool
 keeps Kind.Write = false
 keeps Kind.Read = true
@@ -58,13 +58,16 @@ failure_kept Kind.Read f failed = failed
 failure_kept (Kind.Wait x) f failed = failed
 failure_kept Kind.Range f failed = f
 
+-- the bytes of a good reply
 abbrev pub bytes_kept : Shape → ℕ → List ℕ → List ℕ → List ℕ
-bytes_kept x f carried bs = cond (keeps x.kind && eqb f 0) (put carried x.slot (bytes_from 0 x.reads bs)) carried
+bytes_kept x f carried bs = cond (eqb f 0) (put carried x.slot (bytes_from 0 x.reads bs)) carried
 
--- the budget, where the reply has been kept
+-- the budget, where the bytes have been kept
 abbrev pub budget_kept : Shape → ℕ → List ℕ → ℕ → ℕ
 budget_kept x f carried found_budget = cond (x.finds && eqb f 0) (budget_in timing_slot carried) found_budget
 
 unfoldable pub kept_by : Shape → Session → ℕ → List ℕ → Session
 kept_by x s f bs =
-    with_kept (failure_kept x.kind f s.failed) (budget_kept x f (bytes_kept x f s.carried bs) s.found_budget) (bytes_kept x f s.carried bs) s
+    cond (keeps x.kind)
+    (with_kept (failure_kept x.kind f s.failed) (budget_kept x f (bytes_kept x f s.carried bs) s.found_budget) (bytes_kept x f s.carried bs) s)
+    s

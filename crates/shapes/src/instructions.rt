@@ -160,7 +160,8 @@ fn ranging(register: u8, reads: u8, slot: u8, over: u8) -> Shape
     }
 }
 
-// A match, one arm for each instruction; arms that answer alike are one.
+// A match, one arm for each instruction; arms that answer alike are one. Compiled into whoever looks an instruction up, once for each record.
+#[inline]
 #[tactic(auto, unfolding(crate::specs::Shapes::shape_of))]
 pub fn shape_of(i: Instruction) -> Shape
     ensures { result ≡ shape_of (op_of i) }

@@ -22,7 +22,7 @@ fn store_bytes(carried: [u8; 24], slot: u16, n: u8, bytes: [u8; 6]) -> [u8; 24]
     next
 }
 
-// Are the bytes that the instruction read kept?
+// Is anything kept of the reply to an instruction of a kind?
 #[tactic(auto, unfolding(crate::specs::Shapes::keeps))]
 fn keeps(kind: Kind) -> bool
     ensures { result ≡ keeps kind }
@@ -46,8 +46,11 @@ fn failure_kept(kind: Kind, failure: u8, failed: u8) -> u8
 pub fn kept_by(x: Shape, s: Session, reply: ReplyRecord) -> Session
     ensures { result ≡ kept_by x s reply.failure reply.data }
 {
+    if !keeps(x.kind) {
+        return s;
+    }
     let failed = failure_kept(x.kind, reply.failure, s.failed);
-    let carried = if keeps(x.kind) && reply.failure == 0 {
+    let carried = if reply.failure == 0 {
         store_bytes(s.carried, x.slot, x.reads, reply.data)
     } else {
         s.carried
