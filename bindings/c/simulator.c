@@ -191,7 +191,7 @@ static uint8_t failure(struct simulator *sensor, uint8_t address, bool *made)
         sensor->good_transfers--;
     }
     if (sensor->fails_one_in != 0 && below(sensor, sensor->fails_one_in) == 0) {
-        /* The simulator in Rust has codes up to 255, and the same numbers. */
+        /* The simulator in Rust draws codes up to 255 from the same numbers; a bus in C has none above 253. */
         uint8_t code = (uint8_t)(1 + below(sensor, 255));
         if (code > SIMULATOR_LAST_CODE) {
             return SIMULATOR_LAST_CODE;

@@ -1,4 +1,4 @@
-//! The fifteen calls, in the Rust driver's names.
+//! The calls, in the Rust driver's names.
 
 /// The address that a sensor has after power-up.
 pub const DEFAULT_ADDRESS: u8 = 0x29;

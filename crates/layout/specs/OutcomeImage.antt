@@ -36,7 +36,8 @@ pub record TransferAt (t : Transfer) (l : List ℕ) : Type 0 where
   pub reads : byte 10 l ≡ t.reads
   pub rest : zero_from 11 l ≡ true
 
--- an image is made of bytes where the numbers fit their fields, as those of the code do; byte 0 tells an answer from a transfer
+-- an answer's image is made of bytes where its numbers fit their fields, as those of the code do; a transfer's bytes are the transfer's own.
+-- Byte 0 tells the two apart
 pub record OutcomeImage : Type 0 where
   pub answered : (x : Answer) (n : ℕ) → AnswerAt x n (given_bytes (Given.Answered x n))
   pub bytes : (x : Answer) (n : ℕ) → ((k : ℕ) → value_at k x < 4294967296) → n < 4294967296
