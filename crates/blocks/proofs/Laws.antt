@@ -5,6 +5,7 @@ use Prim.Native.Nat.{ℕ, ◌*◌, ◌/◌, ◌%◌}
 use native.Mathlib.Omega.{arith}
 use borrow.Author.Tests.{eqb-true}
 use lib.ListN.{length, drop, length-take, length-drop, length-append, take-append-drop}
+use Rattle.session.specs.declared.Rules.{Rules}
 use Rattle.session.specs.declared.Session.{Session}
 use Rattle.session.specs.Machine.{Outcome as Result, sent, answered, refused, broken, fresh_session}
 use Rattle.session.specs.Records.{Record, record_of, records_of}
@@ -38,14 +39,14 @@ module _ (line : Outcome → List ℕ) where
   unfolding lines_of session_past
   lines_join s [] more = refl
   lines_join s (r ∷ rs) more =
-      let now = line (outcome_of (step_def s r)) in
-      let next = session_of (step_def s r) in
+      let now = line (outcome_of (step_def Rules.Current s r)) in
+      let next = session_of (step_def Rules.Current s r) in
       ap (λ (l : List ℕ). now ++ l) (lines_join next rs more) ∙ sym (append_assoc now (lines_of line next rs) (lines_of line (session_past next rs) more))
 
 sessions_join : (s : Session) (rs more : List Record) → session_past s (rs ++ more) ≡ session_past (session_past s rs) more
 unfolding session_past
 sessions_join s [] more = refl
-sessions_join s (r ∷ rs) more = sessions_join (session_of (step_def s r)) rs more
+sessions_join s (r ∷ rs) more = sessions_join (session_of (step_def Rules.Current s r)) rs more
 
 -- bytes are spare after the cut as they are in the whole
 after_join : (spare a b : List ℕ) → length a % 8 ≡ 0 → after_lines spare (a ++ b) ≡ after_lines spare b
@@ -68,14 +69,14 @@ blocks_join line spare =
 -- the lines of a history's records, by what each record met
 told : (Outcome → List ℕ) → Session → List Entry → List ℕ
 told line given [] = []
-told line given (e ∷ h) = told line given h ++ line (outcome_of (step_def (session_after given h) e.what))
+told line given (e ∷ h) = told line given h ++ line (outcome_of (step_def Rules.Current (session_after Rules.Current given h) e.what))
 
 all_told : (line : Outcome → List ℕ) (given : Session) (h : List Entry) (rs : List Record)
-    → lines_of line given (in_order h rs) ≡ told line given h ++ lines_of line (session_after given h) rs
+    → lines_of line given (in_order h rs) ≡ told line given h ++ lines_of line (session_after Rules.Current given h) rs
 unfolding lines_of told
 all_told line given [] rs = refl
 all_told line given (e ∷ h) rs =
-    let o = step_def (session_after given h) e.what in
+    let o = step_def Rules.Current (session_after Rules.Current given h) e.what in
     all_told line given h (e.what ∷ rs) ∙ sym (append_assoc (told line given h) (line (outcome_of o)) (lines_of line (session_of o) rs))
 
 got_lines : (o : Result) → outcome_line (outcome_of o) ≡ got_line (got_of o)
@@ -85,35 +86,35 @@ got_lines (answered x n s) = refl
 got_lines (refused x s) = refl
 got_lines (broken s) = refl
 
-told_lines : (h : List Entry) → Genuine fresh_session h → told outcome_line fresh_session h ≡ history_lines h
+told_lines : (h : List Entry) → Genuine Rules.Current fresh_session h → told outcome_line fresh_session h ≡ history_lines h
 unfolding told history_lines
 told_lines [] g = refl
 told_lines (e ∷ h) (i, is, g) =
-    let o = step_def (session_after fresh_session h) e.what in
+    let o = step_def Rules.Current (session_after Rules.Current fresh_session h) e.what in
     ap (λ (l : List ℕ). l ++ outcome_line (outcome_of o)) (told_lines h g) ∙ ap (λ (l : List ℕ). history_lines h ++ l) (got_lines o ∙ ap got_line (sym is))
 
 told_fields : (h : List Entry) → told (λ o. fields_line o.session.driver) fresh_session h ≡ history_fields h
 unfolding told history_fields
 told_fields [] = refl
 told_fields (e ∷ h) =
-    let o = step_def (session_after fresh_session h) e.what in
+    let o = step_def Rules.Current (session_after Rules.Current fresh_session h) e.what in
     ap (λ (l : List ℕ). l ++ fields_line (outcome_of o).session.driver) (told_fields h)
     ∙ ap (λ (s : Session). history_fields h ++ fields_line s.driver) (kept_session o)
 
 -- the lines of whole records from a fresh session
 module _ (bytes : List ℕ) (w : length bytes % 8 ≡ 0) where
   abbrev history : List Entry
-  history = (run_def fresh_session bytes).history
+  history = (run_def Rules.Current fresh_session bytes).history
 
   told_all : (line : Outcome → List ℕ) → lines_of line fresh_session (records_of bytes) ≡ told line fresh_session history
   unfolding lines_of
   told_all line =
-      let d = demand_3 bytes in
+      let d = demand_3 Rules.Current bytes in
       let rs : in_order history [] ≡ records_of bytes = rw w at d.beyond.records in
       rw (sym rs) (all_told line fresh_session history [] ∙ append-nil (told line fresh_session history))
 
   lines_told : lines_of outcome_line fresh_session (records_of bytes) ≡ history_lines history
-  lines_told = told_all outcome_line ∙ told_lines history (demand_3 bytes).beyond.genuine
+  lines_told = told_all outcome_line ∙ told_lines history (demand_3 Rules.Current bytes).beyond.genuine
 
   fields_told : lines_of (λ o. fields_line o.session.driver) fresh_session (records_of bytes) ≡ history_fields history
   fields_told = told_all (λ o. fields_line o.session.driver) ∙ told_fields history

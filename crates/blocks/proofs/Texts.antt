@@ -7,6 +7,7 @@ use native.Mathlib.Omega.{arith}
 use lib.ListN.{length, get_or, take, drop, length-drop, length-append, take-append-drop, drop_of_length-le}
 use lib.Seq.{sets-eq, length-take-le, take_at, drop_at, drop-drop, drop-cons}
 use Rattle.std.specs.Prelude.{map}
+use Rattle.session.specs.declared.Rules.{Rules}
 use Rattle.session.specs.declared.Session.{Session}
 use Rattle.session.specs.Records.{records_of}
 use Rattle.session.specs.Machine.{Outcome as Result, sent, answered, refused, broken}
@@ -47,7 +48,7 @@ module _ (line_of : Outcome → List ℕ) (s₀ : Session) (chunks : List (List 
   unfolding lines_of session_past
   goes_on {out} {out'} {p} {p'} {i} d g more m =
       let r = get_or chunks i d in
-      let line = line_of (outcome_of (step_def p.session (record_in r))) in
+      let line = line_of (outcome_of (step_def Rules.Current p.session (record_in r))) in
       let n = m.line.ends in
       let fits = line_fits g more in
       let short : p'.count ≤ length out = omega (arith, m.short, fits) in

@@ -1,5 +1,6 @@
 -- The lines of records, one after the other, as a program prints them, block by block (SCOPE 10.1).
 use Rattle.std.specs.Prelude.{◌≡◌, List, [], ◌∷◌, ◌++◌, ℕ, ◌+◌, ◌*◌, ◌/◌, ◌≤◌, ◌<◌, length, drop}
+use Rattle.session.specs.declared.Rules.{Rules}
 use Rattle.session.specs.declared.Session.{Session}
 use Rattle.session.specs.Records.{Record, records_of}
 use Rattle.session.specs.History.{step_def, session_of}
@@ -12,17 +13,17 @@ use Rattle.blocks.specs.declared.Printout.{Printout}
 -- the lines of records, where `line` is the line of an outcome: each record meets the session that the one before it left
 unfoldable pub lines_of : (Outcome → List ℕ) → Session → List Record → List ℕ
 lines_of line s [] = []
-lines_of line s (r ∷ rs) = line (outcome_of (step_def s r)) ++ lines_of line (session_of (step_def s r)) rs
+lines_of line s (r ∷ rs) = line (outcome_of (step_def Rules.Current s r)) ++ lines_of line (session_of (step_def Rules.Current s r)) rs
 
 unfoldable pub session_past : Session → List Record → Session
 session_past s [] = s
-session_past s (r ∷ rs) = session_past (session_of (step_def s r)) rs
+session_past s (r ∷ rs) = session_past (session_of (step_def Rules.Current s r)) rs
 
 -- the line of one record, and the session after it
 pub record OneMore (line_of : Outcome → List ℕ) (p : Printout) (bytes out out' : List ℕ) (r : Printout) : Type 0 where
-  pub line : Put out p.count (line_of (outcome_of (step_def p.session (record_in bytes)))) out' r.count
+  pub line : Put out p.count (line_of (outcome_of (step_def Rules.Current p.session (record_in bytes)))) out' r.count
   pub short : r.count ≤ p.count + line_room
-  pub session : r.session ≡ session_of (step_def p.session (record_in bytes))
+  pub session : r.session ≡ session_of (step_def Rules.Current p.session (record_in bytes))
 
 -- the lines of a list stand at the start of the lent bytes, and those after them are as they were
 pub record Printed (line_of : Outcome → List ℕ) (s : Session) (bytes out out' : List ℕ) (r : Printout) : Type 0 where

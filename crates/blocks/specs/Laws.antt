@@ -1,5 +1,6 @@
 -- What holds of the text of every input.
 use Rattle.std.specs.Prelude.{◌≡◌, true, false, List, [], ◌∷◌, ◌++◌, ℕ, ◌*◌, ◌/◌, ◌%◌, length, take}
+use Rattle.session.specs.declared.Rules.{Rules}
 use Rattle.session.specs.declared.Session.{Session}
 use Rattle.session.specs.Bus.{number_of}
 use Rattle.session.specs.Machine.{fresh_session}
@@ -33,7 +34,7 @@ history_lines (e ∷ h) = history_lines h ++ got_line e.got
 -- the driver's fields after each record of a history
 unfoldable pub history_fields : List Entry → List ℕ
 history_fields [] = []
-history_fields (e ∷ h) = history_fields h ++ fields_line (session_after fresh_session (e ∷ h)).driver
+history_fields (e ∷ h) = history_fields h ++ fields_line (session_after Rules.Current fresh_session (e ∷ h)).driver
 
 -- an input without its spare bytes
 abbrev pub whole_part : List ℕ → List ℕ
@@ -42,8 +43,8 @@ whole_part bytes = take (length bytes / 8 * 8) bytes
 -- what is printed tells the history of the list run: demand 3 speaks of that history. Where bytes are spare it is the history of the input
 -- without them, since 14 ends the run of the whole input before any record
 pub record TellsHistory (bytes : List ℕ) : Type 0 where
-  pub whole : is_whole bytes ≡ true → rolltrace_text bytes ≡ history_lines (run_def fresh_session bytes).history
-  pub spare : is_whole bytes ≡ false → rolltrace_text bytes ≡ history_lines (run_def fresh_session (whole_part bytes)).history ++ spare_line
-  pub whole_fields : is_whole bytes ≡ true → rollfields_text bytes ≡ history_fields (run_def fresh_session bytes).history
-  pub spare_fields : is_whole bytes ≡ false → rollfields_text bytes ≡ history_fields (run_def fresh_session (whole_part bytes)).history
+  pub whole : is_whole bytes ≡ true → rolltrace_text bytes ≡ history_lines (run_def Rules.Current fresh_session bytes).history
+  pub spare : is_whole bytes ≡ false → rolltrace_text bytes ≡ history_lines (run_def Rules.Current fresh_session (whole_part bytes)).history ++ spare_line
+  pub whole_fields : is_whole bytes ≡ true → rollfields_text bytes ≡ history_fields (run_def Rules.Current fresh_session bytes).history
+  pub spare_fields : is_whole bytes ≡ false → rollfields_text bytes ≡ history_fields (run_def Rules.Current fresh_session (whole_part bytes)).history
   pub part : is_whole (whole_part bytes) ≡ true

@@ -9,7 +9,7 @@ ghost use Rattle.blocks.specs.Blocks.{OneMore, text_room, Printed, Prints};
 ghost use Rattle.blocks.specs.Input.{spare_line, after_lines};
 
 use lines::LINE_ROOM;
-use session::{Outcome, Session};
+use session::{Outcome, Rules, Session};
 
 // What is printed of a record, and of spare bytes, which are no record, at the end of the input.
 pub trait Show {
@@ -75,7 +75,7 @@ fn print_record<S: Show>(p: Printout, record: [u8; 8], out: &mut [u8]) -> Printo
     requires { p.count + line_room ≤ length out.old }
     ensures { OneMore S.line_of p «record» out.old out.new result }
 {
-    let o = records::step(p.session, record);
+    let o = records::step(Rules::Current, p.session, record);
     Printout {
         session: o.session,
         count: S::put_line(out, p.count, o),

@@ -6,6 +6,7 @@ ghost use Rattle.calls.specs.Parts.{stage, from_gpio, from_tuning};
 
 use crate::sections::{CLEARING, budget_write, gpio_writes, in_order, timing_reads};
 use crate::tuning::load_tuning_settings;
+use budget::DssTerm;
 use session::{Condition, Instruction, SECOND_SLOT, Setting, TIMING_SLOT};
 
 // Identity, 2V8 mode, standard I2C mode and the stop byte, limit checks, signal rate limit.
@@ -79,8 +80,8 @@ fn stage(sequence: u8, byte: u8) -> [Instruction; 6]
 }
 
 // From the pin on: its configuration, the budget, perform_ref_calibration.
-fn from_gpio(step: u8) -> Instruction
-    ensures { result ≡ step_of from_gpio step }
+fn from_gpio(dss: DssTerm, step: u8) -> Instruction
+    ensures { result ≡ step_of (from_gpio dss) step }
 {
     in_order(
         &[
@@ -92,7 +93,7 @@ fn from_gpio(step: u8) -> Instruction
             &timing_reads(TIMING_SLOT),
             &[Instruction::FindBudget, Instruction::WriteSteps],
             &timing_reads(SECOND_SLOT),
-            &budget_write(SECOND_SLOT, Setting::Found),
+            &budget_write(SECOND_SLOT, Setting::Found, dss),
             &stage(0x01, 0x41),
             &stage(0x02, 0x01),
             &[Instruction::Write(0x01, 0xE8)],
@@ -102,22 +103,22 @@ fn from_gpio(step: u8) -> Instruction
 }
 
 // The tuning rows are no table of instructions, so they stand between two lists of tables.
-fn from_tuning(step: u8) -> Instruction
-    ensures { result ≡ step_of from_tuning step }
+fn from_tuning(dss: DssTerm, step: u8) -> Instruction
+    ensures { result ≡ step_of (from_tuning dss) step }
 {
     if step < 80 {
         load_tuning_settings(step)
     } else {
-        from_gpio(step - 80)
+        from_gpio(dss, step - 80)
     }
 }
 
-pub(crate) fn with_address(step: u8) -> Instruction
-    ensures { result ≡ step_of bring_up_steps step }
+pub(crate) fn with_address(dss: DssTerm, step: u8) -> Instruction
+    ensures { result ≡ step_of (bring_up_steps dss) step }
 {
     if step < 44 {
         in_order(&[&OPENING, &SPAD_INFO, &MAP], step)
     } else {
-        from_tuning(step - 44)
+        from_tuning(dss, step - 44)
     }
 }

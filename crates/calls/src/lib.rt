@@ -3,18 +3,20 @@
 #![tactic(auto)]
 
 mod bring_up;
+mod rules;
 mod sections;
 mod tables;
 mod tuning;
 
 ghost use Rattle.std.specs.Prelude.{◌≡◌, ◌&&◌, leb};
-ghost use Rattle.session.specs.Calls.{top_code};
+ghost use Rattle.session.specs.Calls.{top_code, ceiling_of};
 ghost use Rattle.calls.specs.Calls.{facts_of, instruction_at};
 
+use rules::{dss_of, top_code, tries_of};
 use sections::looked_up;
-use session::Instruction;
+use session::{Instruction, Rules};
 
-// How many instructions a call has, the greatest A and B that it takes, and the most transfers that it makes.
+// How many instructions a call has, the greatest A and B that it takes, and the most transfers that it makes, each once.
 #[derive(Clone, Copy)]
 pub struct Facts {
     pub steps: u8,
@@ -57,22 +59,29 @@ pub fn facts_of(code: u8) -> Facts
     }
 }
 
-// Is there a call with this code?
-#[tactic(auto, unfolding(session::specs::Calls::programs))]
-pub fn is_call(code: u8) -> bool
-    ensures { result ≡ leb 1 code && leb code top_code }
+// Do the rules have a call with this code?
+pub fn is_call(rules: Rules, code: u8) -> bool
+    ensures { result ≡ leb 1 code && leb code (top_code rules) }
 {
-    1 <= code && (code as usize) < FACTS.len()
+    1 <= code && code <= top_code(rules)
+}
+
+// The most transfers that it makes by the rules.
+#[tactic(auto, using(crate::proofs::Programs::ceiling_is), unfolding(crate::specs::Calls::facts_of))]
+pub fn ceiling_of(rules: Rules, code: u8) -> u32
+    ensures { result ≡ ceiling_of rules code }
+{
+    tries_of(rules) * facts_of(code).ceiling
 }
 
 // The instruction of the call with this code at a step; past the call's end, or for a code that is no call's, there is none.
 // A match and no table of functions: each call's own contract stands at its arm.
 #[tactic(auto, unfolding(crate::specs::Calls::instruction_at, crate::specs::Calls::step_of, session::specs::Calls::program_of, session::specs::Calls::programs))]
-pub fn instruction_at(code: u8, step: u8) -> Instruction
-    ensures { result ≡ instruction_at code step }
+pub fn instruction_at(rules: Rules, code: u8, step: u8) -> Instruction
+    ensures { result ≡ instruction_at rules code step }
 {
     match code {
-        1 => bring_up::with_address(step),
+        1 => bring_up::with_address(dss_of(rules), step),
         2 => tables::who_am_i(step),
         3 => tables::set_address(step),
         4 => tables::start_continuous(step),
@@ -80,7 +89,7 @@ pub fn instruction_at(code: u8, step: u8) -> Instruction
         6 => tables::read_range_mm(step),
         7 => tables::read_range_continuous(step),
         8 => tables::read_range_single(step),
-        9 => tables::set_budget(step),
+        9 => tables::set_budget(dss_of(rules), step),
         10 => tables::set_thresholds(step),
         11 => tables::get_thresholds(step),
         12 => tables::set_gpio_config(step),

@@ -5,6 +5,7 @@ ghost use Rattle.session.specs.Calls.{timing_reads};
 ghost use Rattle.calls.specs.Calls.{step_of};
 ghost use Rattle.calls.specs.Parts.{budget_write, gpio_writes};
 
+use budget::DssTerm;
 use session::{Instruction, Setting};
 
 // What a table has at an index; past its end, `past`.
@@ -68,12 +69,12 @@ pub(crate) fn timing_reads(slot: u8) -> [Instruction; 5]
 }
 
 // set_measurement_timing_budget after the first five reads
-pub(crate) fn budget_write(slot: u8, setting: Setting) -> [Instruction; 2]
-    ensures { result ≡ budget_write slot setting }
+pub(crate) fn budget_write(slot: u8, setting: Setting, dss: DssTerm) -> [Instruction; 2]
+    ensures { result ≡ budget_write slot setting dss }
 {
     [
-        Instruction::ReadLast(slot, setting),
-        Instruction::WriteWord(slot, setting),
+        Instruction::ReadLast(slot, setting, dss),
+        Instruction::WriteWord(slot, setting, dss),
     ]
 }
 

@@ -6,6 +6,7 @@ ghost use Rattle.calls.specs.Calls.{step_of};
 use crate::sections::{
     CLEARING, PREPARATION, READ_RANGE, budget_write, gpio_writes, in_order, row, timing_reads,
 };
+use budget::DssTerm;
 use session::{Condition, Instruction, Setting, TIMING_SLOT};
 
 pub(crate) fn who_am_i(step: u8) -> Instruction
@@ -76,13 +77,13 @@ pub(crate) fn read_range_single(step: u8) -> Instruction
     in_order(&[&PREPARATION, &SINGLE, &AWAITED, &CLEARING], step)
 }
 
-pub(crate) fn set_budget(step: u8) -> Instruction
-    ensures { result ≡ step_of set_budget_call.steps step }
+pub(crate) fn set_budget(dss: DssTerm, step: u8) -> Instruction
+    ensures { result ≡ step_of (set_budget_call dss).steps step }
 {
     in_order(
         &[
             &timing_reads(TIMING_SLOT),
-            &budget_write(TIMING_SLOT, Setting::Asked),
+            &budget_write(TIMING_SLOT, Setting::Asked, dss),
         ],
         step,
     )

@@ -1,5 +1,6 @@
 -- What the code knows of a session that has passed the test of answer 15.
 use Rattle.std.specs.Prelude.{Bool, not, ◌&&◌, ◌||◌, List, ℕ, ◌≤◌, eqb, ltb, leb, drop}
+use Rattle.session.specs.declared.Rules.{Rules}
 use Rattle.session.specs.declared.Session.{Session}
 use Rattle.session.specs.Bus.{clean_from, wait_limit}
 use Rattle.session.specs.Calls.{arguments_ok, ceiling_of}
@@ -21,24 +22,24 @@ idle_bad code (Kind.Wait x) idle = leb (wait_limit code x) idle
 idle_bad code Kind.Range idle = not (eqb idle 0)
 
 -- the kind of the instruction that a session stands at
-abbrev pub kind_at : Session → Kind
-kind_at s = (shape_of (op_of (instruction_at s.code s.step))).kind
+abbrev pub kind_at : Rules → Session → Kind
+kind_at rules s = (shape_of (op_of (instruction_at rules s.code s.step))).kind
 
 -- a step that is not of its call, or too many idle reads for an instruction of a kind
 unfoldable pub idle_at_step : ℕ → ℕ → Kind → ℕ → Bool
 idle_at_step code step kind idle = leb (steps_in code) step || idle_bad code kind idle
 
 -- answer 15 (SCOPE 9.2), where a session stands at an instruction of a kind
-unfoldable pub malformed_at : Kind → Session → Bool
-malformed_at kind s =
-    not (arguments_ok s.code s.a s.b)
+unfoldable pub malformed_at : Rules → Kind → Session → Bool
+malformed_at rules kind s =
+    not (arguments_ok rules s.code s.a s.b)
     || up_wrong s.code s.driver.up
     || idle_at_step s.code s.step kind s.idle
     || eqb s.transfers 0
-    || ltb (ceiling_of s.code) s.transfers
+    || ltb (ceiling_of rules s.code) s.transfers
 
-abbrev pub ill_formed_at : Kind → Session → Bool
-ill_formed_at kind s = waits_now s && malformed_at kind s
+abbrev pub ill_formed_at : Rules → Kind → Session → Bool
+ill_formed_at rules kind s = waits_now s && malformed_at rules kind s
 
 -- a byte past those read, or any byte beside a failure
 unfoldable pub stray_in : ℕ → ℕ → List ℕ → Bool

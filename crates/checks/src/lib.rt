@@ -8,15 +8,16 @@ ghost use Rattle.session.specs.Calls.{arguments_ok};
 ghost use Rattle.session.specs.Machine.{all_zero, up_wrong, ill_formed};
 ghost use Rattle.checks.specs.Sound.{idle_bad, idle_at_step, malformed_at, ill_formed_at, stray_in};
 
-use session::{CallRecord, Condition, ReplyRecord, Session, WITH_ADDRESS};
+use session::{CallRecord, Condition, ReplyRecord, Rules, Session, WITH_ADDRESS};
 use shapes::Kind;
 
-#[tactic(auto, unfolding(session::specs::Calls::arguments_ok, calls::specs::Calls::facts_of))]
-pub fn arguments_ok(call: CallRecord) -> bool
-    ensures { result ≡ arguments_ok call.code call.a call.b }
+#[tactic(auto, using(crate::proofs::Places::arguments_are), unfolding(calls::specs::Calls::facts_of))]
+pub fn arguments_ok(rules: Rules, call: CallRecord) -> bool
+    ensures { result ≡ arguments_ok rules call.code call.a call.b }
 {
     let facts = calls::facts_of(call.code);
-    calls::is_call(call.code) && (call.a <= facts.greatest_a && call.b <= facts.greatest_b)
+    // Every test is made: they are cheap, and together one equation.
+    calls::is_call(rules, call.code) & ((call.a <= facts.greatest_a) & (call.b <= facts.greatest_b))
 }
 
 // By the call's code too: a call may have limits of its own.
@@ -55,37 +56,38 @@ fn up_wrong(code: u8, up: bool) -> bool
     if code == WITH_ADDRESS { up } else { !up }
 }
 
-#[tactic(auto, unfolding(crate::specs::Sound::malformed_at, session::specs::Calls::ceiling_of, calls::specs::Calls::facts_of))]
-fn malformed_at(s: Session, kind: Kind) -> bool
-    ensures { result ≡ malformed_at kind s }
+#[tactic(auto, unfolding(crate::specs::Sound::malformed_at))]
+fn malformed_at(rules: Rules, s: Session, kind: Kind) -> bool
+    ensures { result ≡ malformed_at rules kind s }
 {
     let call = CallRecord {
         code: s.code,
         a: s.a,
         b: s.b,
     };
-    !arguments_ok(call)
+    !arguments_ok(rules, call)
         || up_wrong(s.code, s.driver.up)
         || idle_at(s, kind)
         || s.transfers == 0
-        || calls::facts_of(s.code).ceiling < s.transfers
+        || calls::ceiling_of(rules, s.code) < s.transfers
 }
 
 // Answer 15 (SCOPE 9.2): the session says that a call waits, and is no session that waits in it. Whoever has looked up the instruction that
 // it stands at gives its kind.
-pub fn ill_formed_at(s: Session, kind: Kind) -> bool
-    ensures { result ≡ ill_formed_at kind s }
+pub fn ill_formed_at(rules: Rules, s: Session, kind: Kind) -> bool
+    ensures { result ≡ ill_formed_at rules kind s }
 {
-    s.code != 0 && malformed_at(s, kind)
+    s.code != 0 && malformed_at(rules, s, kind)
 }
 
 #[tactic(auto, using(crate::proofs::Places::ill_is))]
-pub fn ill_formed(s: Session) -> bool
-    ensures { result ≡ ill_formed s }
+pub fn ill_formed(rules: Rules, s: Session) -> bool
+    ensures { result ≡ ill_formed rules s }
 {
     ill_formed_at(
+        rules,
         s,
-        shapes::shape_of(calls::instruction_at(s.code, s.step)).kind,
+        shapes::shape_of(calls::instruction_at(rules, s.code, s.step)).kind,
     )
 }
 

@@ -9,12 +9,12 @@ ghost use Rattle.driver.specs.Replies.{launching};
 use crate::replies::stays;
 use checks::{arguments_ok, ill_formed};
 use reactions::{Decision, Move, Standing, calling, carry_out, move_of};
-use session::{Answer, CallRecord, Instruction, Outcome, Session, WITH_ADDRESS};
+use session::{Answer, CallRecord, Instruction, Outcome, Rules, Session, WITH_ADDRESS};
 
 // What the arguments decide: an answer with no transfer made, or the first transfer. A leap leaves out all instructions.
 #[tactic(auto, unfolding(calls::specs::Calls::facts_of))]
-fn launch(s: Standing) -> Decision
-    ensures { Reaches result (launching s.session) }
+fn launch(rules: Rules, s: Standing) -> Decision
+    ensures { Reaches result (launching rules s.session) }
 {
     let code = s.session.code;
     let next = move_of(
@@ -23,6 +23,7 @@ fn launch(s: Standing) -> Decision
         0,
     );
     Decision {
+        rules,
         next,
         at: Instruction::Nowhere,
         session: s.session,
@@ -43,40 +44,44 @@ fn not_up(code: u8, up: bool) -> bool
     if code == WITH_ADDRESS { false } else { !up }
 }
 
-#[tactic(auto, unfolding(reactions::specs::Standing::leads, reactions::specs::Reactions::action_of, reactions::specs::Reactions::acting, session::specs::Machine::begin_def, crate::specs::Replies::launching, calls::specs::Calls::steps_in))]
-pub fn call_decision(s: Session, call: CallRecord) -> Decision
-    ensures { Reaches result (begin_def s call.code call.a call.b) }
+#[tactic(auto, unfolding(reactions::specs::Standing::leads, reactions::specs::Reactions::action_of, reactions::specs::Reactions::acting, session::specs::Machine::begin_def, crate::specs::Replies::launching))]
+pub fn call_decision(rules: Rules, s: Session, call: CallRecord) -> Decision
+    ensures { Reaches result (begin_def rules s call.code call.a call.b) }
 {
-    if ill_formed(s) {
-        stays(Move::IllFormed, s)
-    } else if !arguments_ok(call) {
-        stays(Move::Refused(Answer::IllFormedRecord), s)
+    if ill_formed(rules, s) {
+        stays(rules, Move::IllFormed, s)
+    } else if !arguments_ok(rules, call) {
+        stays(rules, Move::Refused(Answer::IllFormedRecord), s)
     } else if s.code != 0 {
-        stays(Move::Refused(Answer::CallWaits), s)
+        stays(rules, Move::Refused(Answer::CallWaits), s)
     } else if not_up(call.code, s.driver.up) {
-        stays(Move::Refused(Answer::NotUp), s)
+        stays(rules, Move::Refused(Answer::NotUp), s)
     } else {
-        launch(Standing {
-            at: Instruction::Nowhere,
-            session: begun(s, call),
-        })
+        launch(
+            rules,
+            Standing {
+                at: Instruction::Nowhere,
+                session: begun(s, call),
+            },
+        )
     }
 }
 
-pub fn begin(s: Session, call: CallRecord) -> Outcome
-    ensures { result ≡ outcome_of (begin_def s call.code call.a call.b) }
+pub fn begin(rules: Rules, s: Session, call: CallRecord) -> Outcome
+    ensures { result ≡ outcome_of (begin_def rules s call.code call.a call.b) }
 {
-    carry_out(call_decision(s, call))
+    carry_out(call_decision(rules, s, call))
 }
 
 // lib.rs: DEFAULT_ADDRESS, at which the sensor stands after power is switched on.
 pub const DEFAULT_ADDRESS: u8 = 0x29;
 
 // lib.rs: new, which is `with_address` at that address.
-pub fn begin_new(s: Session) -> Outcome
-    ensures { result ≡ outcome_of (begin_def s 1 default_address 0) }
+pub fn begin_new(rules: Rules, s: Session) -> Outcome
+    ensures { result ≡ outcome_of (begin_def rules s 1 default_address 0) }
 {
     begin(
+        rules,
         s,
         CallRecord {
             code: WITH_ADDRESS,
@@ -88,12 +93,12 @@ pub fn begin_new(s: Session) -> Outcome
 
 // A record that is neither a call nor a reply.
 #[tactic(auto, unfolding(reactions::specs::Standing::leads, reactions::specs::Reactions::action_of, reactions::specs::Reactions::acting, session::specs::Machine::other_def))]
-pub fn other_decision(s: Session) -> Decision
-    ensures { Reaches result (other_def s) }
+pub fn other_decision(rules: Rules, s: Session) -> Decision
+    ensures { Reaches result (other_def rules s) }
 {
-    if ill_formed(s) {
-        stays(Move::IllFormed, s)
+    if ill_formed(rules, s) {
+        stays(rules, Move::IllFormed, s)
     } else {
-        stays(Move::Refused(Answer::IllFormedRecord), s)
+        stays(rules, Move::Refused(Answer::IllFormedRecord), s)
     }
 }

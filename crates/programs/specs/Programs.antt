@@ -1,7 +1,9 @@
 -- The two ends of a call: what its arguments decide, and how it ends after its last instruction.
 use Rattle.std.specs.Prelude.{◌||◌, ℕ, ◌+◌, ◌*◌, ltb, Option, is_none, Result, Ok, Err, is_err}
+use Rattle.session.specs.declared.Rules.{Rules}
 use Rattle.session.specs.declared.Driver.{Driver}
-use Rattle.session.specs.Instructions.{Final, success, failure, Verdict, onward, stop, test, wrong_address, wrong_argument, declines}
+use Rattle.session.specs.Instructions.{Context, Final, success, failure, Verdict, onward, stop, test, wrong_address, wrong_argument, declines}
+use Rattle.session.specs.Calls.{program_of}
 use Rattle.budget.specs.Budget.{too_short}
 use Rattle.threshold.specs.declared.InvalidArgument.{InvalidArgument}
 use Rattle.threshold.specs.Threshold.{decode_threshold}
@@ -19,6 +21,13 @@ Ended = Result Finished RangeFailure
 abbrev pub end_of : Final → Ended
 end_of (success v d) = Ok (finishes v d)
 end_of (failure e) = Err (record { 0 = e })
+
+-- by a call's code: one for all rules (`Alike` of crate session), read off the current ones
+unfoldable pub entry_of : ℕ → Context → Verdict
+entry_of code = (program_of Rules.Current code).entry
+
+unfoldable pub final_of : ℕ → Context → Final
+final_of code = (program_of Rules.Current code).final
 
 -- call 3's test, and call 9's
 abbrev pub address_entry : ℕ → Verdict

@@ -3,10 +3,10 @@
 
 ghost use Rattle.std.specs.Prelude.{◌≡◌};
 ghost use Rattle.session.specs.Bus.{with_driver_address, with_driver_budget};
-ghost use Rattle.session.specs.Calls.{brought_up, range_result, program_of};
+ghost use Rattle.session.specs.Calls.{brought_up, range_result};
 ghost use Rattle.session.specs.Machine.{context_of, held_by};
 ghost use Rattle.shapes.specs.Shapes.{settled};
-ghost use Rattle.programs.specs.Programs.{finishes, end_of, address_entry, budget_entry, thresholds_entry, rate_entry, thresholds_of};
+ghost use Rattle.programs.specs.Programs.{finishes, end_of, entry_of, final_of, address_entry, budget_entry, thresholds_entry, rate_entry, thresholds_of};
 
 use ground::word;
 use session::{Answer, Driver, Session};
@@ -66,9 +66,9 @@ fn rate_entry(word: Option<u16>) -> Verdict
 }
 
 // What the arguments of a call decide; those of most calls decide nothing.
-#[tactic(auto, using(crate::proofs::Laws::enters), unfolding(session::specs::Calls::program_of, session::specs::Calls::programs))]
+#[tactic(auto, using(crate::proofs::Laws::enters), unfolding(crate::specs::Programs::entry_of, session::specs::Calls::program_of, session::specs::Calls::programs))]
 pub fn entry(code: u8, s: Session) -> Verdict
-    ensures { result ≡ settled ((program_of code).entry (context_of s)) }
+    ensures { result ≡ settled (entry_of code (context_of s)) }
 {
     match code {
         3 => address_entry(address_in(s)),
@@ -152,9 +152,9 @@ fn thresholds(low: u16, high: u16) -> u32
         + threshold::decode_threshold(RawThreshold(high)).0 as u32
 }
 
-#[tactic(auto, unfolding(crate::specs::Programs::thresholds_of, session::specs::Calls::program_of, session::specs::Calls::programs))]
+#[tactic(auto, unfolding(crate::specs::Programs::thresholds_of, crate::specs::Programs::final_of, session::specs::Calls::program_of, session::specs::Calls::programs))]
 fn thresholds_result(s: Session) -> Finished
-    ensures { Ok result ≡ end_of ((program_of 11).final (context_of s)) }
+    ensures { Ok result ≡ end_of (final_of 11 (context_of s)) }
 {
     finishes(
         thresholds(
@@ -166,9 +166,9 @@ fn thresholds_result(s: Session) -> Finished
 }
 
 // How a call ends after its last instruction. One arm for each call: the proof of each goes by its code.
-#[tactic(auto, unfolding(session::specs::Calls::program_of, session::specs::Calls::programs))]
+#[tactic(auto, unfolding(crate::specs::Programs::final_of, session::specs::Calls::program_of, session::specs::Calls::programs))]
 pub fn final_of(code: u8, s: Session) -> Result<Finished, RangeFailure>
-    ensures { result ≡ end_of ((program_of code).final (context_of s)) }
+    ensures { result ≡ end_of (final_of code (context_of s)) }
 {
     match code {
         1 => Ok(brought_up(address_in(s), s)),

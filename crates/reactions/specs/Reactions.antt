@@ -2,20 +2,20 @@
 -- the move that it makes, the action that this comes to, and the outcome. That this is the machine's `react` is proved.
 -- A decision is a move with its session.
 use Rattle.std.specs.Prelude.{Bool, true, false, cond, ◌≡◌, List, ℕ, suc, ◌+◌, eqb, ltb, Ok, Err}
+use Rattle.session.specs.declared.Rules.{Rules}
 use Rattle.session.specs.declared.Session.{Session}
 use Rattle.session.specs.declared.Answer.{Answer}
 use Rattle.session.specs.declared.Instruction.{Instruction}
 use Rattle.session.specs.Bus.{wait_limit, idle_on}
 use Rattle.session.specs.Instructions.{Op, send_of, read_wins, report_of}
 use Rattle.session.specs.Steps.{op_of}
-use Rattle.session.specs.Calls.{program_of}
 use Rattle.session.specs.Machine.{Outcome as Result, sent, refused, broken, context_of, sending, answering, giving, conclude}
 use Rattle.calls.specs.Calls.{instruction_at, steps_in}
 use Rattle.shapes.specs.declared.Kind.{Kind}
 use Rattle.shapes.specs.declared.Verdict.{Verdict}
 use Rattle.shapes.specs.declared.Shape.{Shape}
 use Rattle.shapes.specs.Shapes.{verdict_of, settled}
-use Rattle.programs.specs.Programs.{Ended}
+use Rattle.programs.specs.Programs.{Ended, final_of}
 use Rattle.reactions.specs.declared.Move.{Move}
 use Rattle.reactions.specs.declared.standing.Decision.{Decision}
 use Rattle.reactions.specs.declared.Action.{Action}
@@ -60,15 +60,15 @@ unfoldable pub move_after : Kind → Op → Shape → Session → ℕ → List �
 move_after kind op x s f bs = cond (eqb f 0) (good_move kind op x s bs) (failed_move kind x f s)
 
 -- what a move comes to: a transfer at a step, the end of the call after its last instruction, an answer, or a session that stays
-unfoldable pub arrival_at : ℕ → Session → Action
-arrival_at k s = cond (ltb k (steps_in s.code)) (Action.Send (instruction_at s.code k) k 0) Action.End
+unfoldable pub arrival_at : Rules → ℕ → Session → Action
+arrival_at rules k s = cond (ltb k (steps_in s.code)) (Action.Send (instruction_at rules s.code k) k 0) Action.End
 
-unfoldable pub action_of : Move → Instruction → Session → Action
-action_of (Move.To k) i s = arrival_at k s
-action_of (Move.Again n) i s = Action.Send i s.step n
-action_of (Move.Out x) i s = Action.Answer x
-action_of (Move.Refused x) i s = Action.Refused x
-action_of Move.IllFormed i s = Action.IllFormed
+unfoldable pub action_of : Rules → Move → Instruction → Session → Action
+action_of rules (Move.To k) i s = arrival_at rules k s
+action_of rules (Move.Again n) i s = Action.Send i s.step n
+action_of rules (Move.Out x) i s = Action.Answer x
+action_of rules (Move.Refused x) i s = Action.Refused x
+action_of rules Move.IllFormed i s = Action.IllFormed
 
 unfoldable pub acts : Action → Bool
 acts (Action.Send i k idle) = true
@@ -83,7 +83,7 @@ ending (Ok x) s = answering (Answer.Done x.value) x.driver s
 ending (Err e) s = giving (Answer.BusError e.0) s
 
 unfoldable pub concluding : Session → Result
-concluding s = conclude ((program_of s.code).final (context_of s)) s
+concluding s = conclude (final_of s.code (context_of s)) s
 
 unfoldable pub acting : Action → Session → Result
 acting (Action.Send i k idle) s = sent (send_of (op_of i) (context_of s)) (sending k idle s)
@@ -94,7 +94,7 @@ acting Action.IllFormed s = broken s
 
 -- what a decision comes to
 unfoldable pub reached : Decision → Result
-reached c = acting (action_of c.next c.at c.session) c.session
+reached c = acting (action_of c.rules c.next c.at c.session) c.session
 
 -- a decision, and what it comes to
 abbrev pub Reaches : Decision → Result → Type 0

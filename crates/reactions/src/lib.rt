@@ -19,7 +19,7 @@ use crate::moves::move_after;
 use crate::outcomes::act;
 pub use moves::move_of;
 pub use outcomes::{calling, resting};
-use session::{Answer, Instruction, Outcome, ReplyRecord, Session};
+use session::{Answer, Instruction, Outcome, ReplyRecord, Rules};
 use shapes::{Shape, kept_by};
 pub use standing::{Decision, Standing};
 
@@ -55,9 +55,9 @@ pub fn carry_out(c: Decision) -> Outcome
 
 // The decision of a session that waits for the reply to an instruction of a shape. The shape is looked up once, for speed, and is in no type:
 // what is sent afterwards has none.
-pub fn react(s: Standing, shape: Shape, reply: ReplyRecord) -> Decision
+pub fn react(rules: Rules, s: Standing, shape: Shape, reply: ReplyRecord) -> Decision
     requires { shape ≡ shape_of (op_of s.at) }
-    ensures { Reaches result (react (op_of s.at) (program_of s.session.code) s.session (to_reply reply.failure reply.data)) }
+    ensures { Reaches result (react (op_of s.at) (program_of rules s.session.code) s.session (to_reply reply.failure reply.data)) }
 {
     let kept = Standing {
         at: s.at,
@@ -65,6 +65,7 @@ pub fn react(s: Standing, shape: Shape, reply: ReplyRecord) -> Decision
     };
     let next = move_after(kept, shape, reply);
     Decision {
+        rules,
         next,
         at: kept.at,
         session: kept.session,

@@ -5,6 +5,7 @@ use mathlib.Core.List.{List, [], ◌∷◌, ◌++◌, map}
 use Prim.Native.Nat.{ℕ, ◌+◌, ◌*◌}
 use native.Mathlib.Omega.{arith}
 use lib.Dec.{eqb}
+use Rattle.session.specs.declared.Rules.{Rules}
 use Rattle.session.specs.declared.Session.{Session}
 use Rattle.session.specs.Records.{Record, call, reply, other, record_of, records_of, is_whole}
 use Rattle.session.specs.History.{run_def}
@@ -58,9 +59,9 @@ all_end : (x : Event) (rs : List Record) → ends_in (map event_of rs ++ (x ∷ 
 all_end x [] = refl
 all_end x (r ∷ rs) = goes_on r (map event_of rs ++ (x ∷ [])) ∙ all_end x rs
 
-runs : (s : Session) (l : List ℕ) → run_def s l ≡ run_events s (events_of l)
+runs : (rules : Rules) (s : Session) (l : List ℕ) → run_def rules s l ≡ run_events rules s (events_of l)
 unfolding run_def
-runs s l =
+runs rules s l =
     let e : ends_in (events_of l) ≡ is_whole l = all_end (last_of l) (records_of l) ∙ ends_last (is_whole l) in
     let r : records_in (events_of l) ≡ records_of l = all_records (last_of l) (none_last (is_whole l)) l in
     rw (e, r) refl

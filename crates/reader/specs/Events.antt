@@ -1,6 +1,7 @@
 -- The events that a reader over lent records gives: the records in order, and then their end or spare bytes.
 -- SCOPE 2.5: a reader gives one event after the other.
 use Rattle.std.specs.Prelude.{◌≡◌, Bool, true, false, cond, List, [], ◌∷◌, ◌++◌, map, ℕ, zero, suc, ◌+◌, leb, length, get_or}
+use Rattle.session.specs.declared.Rules.{Rules}
 use Rattle.session.specs.declared.Answer.{Answer}
 use Rattle.session.specs.declared.Session.{Session}
 use Rattle.session.specs.History.{Run, stopped, run_records, run_def}
@@ -58,10 +59,10 @@ ends_in (Event.End ∷ es) = true
 ends_in (Event.Spare ∷ es) = false
 
 -- the run over events: 14 where they end in spare bytes, else their records in order
-abbrev pub run_events : Session → List Event → Run
-run_events s es = cond (ends_in es) (run_records s (records_in es)) (stopped Answer.SpareBytes s)
+abbrev pub run_events : Rules → Session → List Event → Run
+run_events rules s es = cond (ends_in es) (run_records rules s (records_in es)) (stopped Answer.SpareBytes s)
 
 -- a reader that starts at the first byte gives the events in order, and the list run is the run over them
 pub record ReadsAll : Type 0 where
   pub in_their_order : (n : ℕ) (l : List ℕ) → event_at (place_after_all n 0 l) l ≡ event_number n l
-  pub runs : (s : Session) (l : List ℕ) → run_def s l ≡ run_events s (events_of l)
+  pub runs : (rules : Rules) (s : Session) (l : List ℕ) → run_def rules s l ≡ run_events rules s (events_of l)

@@ -11,6 +11,7 @@ use native.Mathlib.Numerals.{towards_suc, add-one}
 use lib.Dec.{eqb}
 use lib.ListN.{length, get_or, take, drop, length-drop}
 use lib.Seq.{drop-cons, take_all}
+use Rattle.session.specs.declared.Rules.{Rules}
 use Rattle.session.specs.declared.Given.{Given}
 use Rattle.session.specs.Given.{outcome_of}
 use Rattle.session.specs.Bus.{byte}
@@ -88,17 +89,17 @@ room_added c d kind (Given.Refused x) n e h =
 room_added c d kind Given.IllFormed n e h = cc
 
 -- one record more
-module _ (p q : Progress) (bs : List ℕ) (e : Some q ≡ advance p bs) where
+module _ (rules : Rules) (p q : Progress) (bs : List ℕ) (e : Some q ≡ advance rules p bs) where
   pub room_turn : (n : ℕ) → Room p.counts n → Room q.counts (n + 1)
   unfolding advance
-  room_turn n h = at (added_to p.counts (byte 0 bs) (outcome_of (step_def p.session (record_in bs))).given) refl e
+  room_turn n h = at (added_to p.counts (byte 0 bs) (outcome_of (step_def rules p.session (record_in bs))).given) refl e
     where
-      at : (x : Option Counts) → added_to p.counts (byte 0 bs) (outcome_of (step_def p.session (record_in bs))).given ≡ x
-          → Some q ≡ option_map (progress_of (outcome_of (step_def p.session (record_in bs))).session) x → Room q.counts (n + 1)
+      at : (x : Option Counts) → added_to p.counts (byte 0 bs) (outcome_of (step_def rules p.session (record_in bs))).given ≡ x
+          → Some q ≡ option_map (progress_of (outcome_of (step_def rules p.session (record_in bs))).session) x → Room q.counts (n + 1)
       at None f e = cc
       at (Some d) f e =
-          let k : q ≡ progress_of (outcome_of (step_def p.session (record_in bs))).session d = cc in
-          rw k (room_added p.counts d (byte 0 bs) (outcome_of (step_def p.session (record_in bs))).given n (sym f) h)
+          let k : q ≡ progress_of (outcome_of (step_def rules p.session (record_in bs))).session d = cc in
+          rw k (room_added p.counts d (byte 0 bs) (outcome_of (step_def rules p.session (record_in bs))).given n (sym f) h)
 
-  pub turn : (rs : List (List ℕ)) (i : ℕ) → i < length rs → bs ≡ get_or rs i [] → going q (drop (i + 1) rs) ≡ going p (drop i rs)
+  pub turn : (rs : List (List ℕ)) (i : ℕ) → i < length rs → bs ≡ get_or rs i [] → going rules q (drop (i + 1) rs) ≡ going rules p (drop i rs)
   turn rs i h b = rw add-one (sym (rw (drop-cons rs i [] h) (rw (← b) (rw (← e) refl))))

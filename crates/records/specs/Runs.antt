@@ -2,6 +2,7 @@
 use Rattle.std.specs.Prelude.{◌≡◌, cond, List, [], ◌∷◌, ℕ, ◌+◌, ◌%◌, ◌/◌, ◌≤◌, eqb, length, Option, Some, None, Result, Ok, Err}
 use Rattle.std.specs.Option.{option_map, option_and_then, ok_or}
 use Rattle.std.specs.Simd.{first_chunks}
+use Rattle.session.specs.declared.Rules.{Rules}
 use Rattle.session.specs.declared.Session.{Session}
 use Rattle.session.specs.declared.Answer.{Answer}
 use Rattle.session.specs.Bus.{byte}
@@ -23,10 +24,10 @@ unfoldable pub list_run_of : Run → ListRun
 list_run_of run = record { answer = run.answer; session = run.session; counts = counts_of run.counts }
 
 -- demand 3 of a run that starts fresh: there is a history, and with it the run is the list's, and one of which demand 3 holds
-pub record RunsFresh (bytes : List ℕ) (r : ListRun) : Type 0 where
+pub record RunsFresh (rules : Rules) (bytes : List ℕ) (r : ListRun) : Type 0 where
   pub run : Run
   pub shown : r ≡ list_run_of run
-  pub demand_3 : Both3 bytes run
+  pub demand_3 : Both3 rules bytes run
 
 -- no count is above n
 pub record Room (c : Counts) (n : ℕ) : Type 0 where
@@ -68,24 +69,24 @@ abbrev pub progress_of : Session → Counts → Progress
 progress_of s c = record { session = s; counts = c }
 
 -- one record, as eight bytes
-unfoldable pub advance : Progress → List ℕ → Option Progress
-advance p bs =
-    let o = outcome_of (step_def p.session (record_in bs)) in
+unfoldable pub advance : Rules → Progress → List ℕ → Option Progress
+advance rules p bs =
+    let o = outcome_of (step_def rules p.session (record_in bs)) in
     option_map (progress_of o.session) (added_to p.counts (byte 0 bs) o.given)
 
 abbrev pub starting : Session → Progress
 starting s = progress_of s no_counts
 
 -- records one after the other
-abbrev pub going : Progress → List (List ℕ) → Option Progress
-going p [] = Some p
-going p (r ∷ rs) = option_and_then (λ q. going q rs) (advance p r)
+abbrev pub going : Rules → Progress → List (List ℕ) → Option Progress
+going rules p [] = Some p
+going rules p (r ∷ rs) = option_and_then (λ q. going rules q rs) (advance rules p r)
 
 -- 14 and 15, or where a run ends
-unfoldable pub gone : Session → List ℕ → Result Progress Answer
-gone s l =
+unfoldable pub gone : Rules → Session → List ℕ → Result Progress Answer
+gone rules s l =
     cond (eqb (length l % 8) 0)
-    (cond (ill_formed s) (Err Answer.IllFormedSession) (ok_or (going (starting s) (first_chunks 8 (length l / 8) l)) Answer.IllFormedSession))
+    (cond (ill_formed rules s) (Err Answer.IllFormedSession) (ok_or (going rules (starting s) (first_chunks 8 (length l / 8) l)) Answer.IllFormedSession))
     (Err Answer.SpareBytes)
 
 -- what a run gives. SCOPE 8.2: 14 and 15 end it with the session as it was given and all counts 0

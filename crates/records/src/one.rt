@@ -7,7 +7,7 @@ ghost use Rattle.records.specs.Records.{record_in, record_at, shown, meant};
 
 use crate::Record;
 use reactions::Decision;
-use session::{CallRecord, Outcome, ReplyRecord, Session};
+use session::{CallRecord, Outcome, ReplyRecord, Rules, Session};
 use std::array;
 
 // SCOPE 7.1: a call is 0x01, its code, A and B; a reply is 0x02, its failure code and six data bytes.
@@ -51,20 +51,20 @@ pub fn record_at(bytes: &[u8], at: usize) -> [u8; 8]
 
 // A match, one arm for each case with what it holds.
 #[tactic(auto, unfolding(session::specs::History::step_def, crate::specs::Records::meant))]
-fn decision_of(s: Session, met: Record) -> Decision
-    ensures { Reaches result (step_def s (meant met)) }
+fn decision_of(rules: Rules, s: Session, met: Record) -> Decision
+    ensures { Reaches result (step_def rules s (meant met)) }
 {
     match met {
-        Record::Call(call) => driver::call_decision(s, call),
-        Record::Reply(reply) => driver::reply_decision(s, reply),
-        Record::Other => driver::other_decision(s),
+        Record::Call(call) => driver::call_decision(rules, s, call),
+        Record::Reply(reply) => driver::reply_decision(rules, s, reply),
+        Record::Other => driver::other_decision(rules, s),
     }
 }
 
 // The tests of a record return a decision, and only here it is carried out, for all three kinds of record. What is called from one place is compiled
 // into its caller, so that a whole step becomes one piece of code.
-pub fn step(s: Session, record: [u8; 8]) -> Outcome
-    ensures { result ≡ outcome_of (step_def s (record_in «record»)) }
+pub fn step(rules: Rules, s: Session, record: [u8; 8]) -> Outcome
+    ensures { result ≡ outcome_of (step_def rules s (record_in «record»)) }
 {
-    reactions::carry_out(decision_of(s, Record::from(record)))
+    reactions::carry_out(decision_of(rules, s, Record::from(record)))
 }

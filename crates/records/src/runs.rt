@@ -5,7 +5,7 @@ ghost use Rattle.records.specs.Runs.{Room, added_to, advance, starting, going, g
 
 use crate::one::step;
 use crate::{Counts, ListRun};
-use session::{Answer, Given, Session};
+use session::{Answer, Given, Rules, Session};
 
 // Where a run is: the session, and the counts so far.
 #[derive(Clone, Copy)]
@@ -43,11 +43,11 @@ fn added_to(counts: Counts, kind: u8, given: Given) -> Option<Counts>
 
 // One record more; a session that was ill-formed ends the run.
 #[tactic(auto, unfolding(crate::specs::Runs::advance))]
-fn advance(p: Progress, record: [u8; 8]) -> Option<Progress>
+fn advance(rules: Rules, p: Progress, record: [u8; 8]) -> Option<Progress>
     requires { Room p.counts (2 ^ 63) }
-    ensures { result ≡ advance p «record» }
+    ensures { result ≡ advance rules p «record» }
 {
-    let o = step(p.session, record);
+    let o = step(rules, p.session, record);
     let counts = added_to(p.counts, record[0], o.given)?;
     Some(Progress {
         session: o.session,
@@ -55,41 +55,41 @@ fn advance(p: Progress, record: [u8; 8]) -> Option<Progress>
     })
 }
 
-fn go(s: Session, records: &[[u8; 8]]) -> Option<Progress>
+fn go(rules: Rules, s: Session, records: &[[u8; 8]]) -> Option<Progress>
     requires { length records.now < 2 ^ 63 }
-    ensures { result ≡ going (starting s) records.now }
+    ensures { result ≡ going rules (starting s) records.now }
 {
     let mut p = Progress {
         session: s,
         counts: Counts::default(),
     };
     for r in records {
-        p = advance(p, *r)?;
+        p = advance(rules, p, *r)?;
     }
     Some(p)
 }
 
 // Answers 14 and 15 give back the session as it was given, with all counts 0.
 #[tactic(auto, unfolding(crate::specs::Runs::gone))]
-fn gone(s: Session, bytes: &[u8]) -> Result<Progress, Answer>
-    ensures { result ≡ gone s bytes.now }
+fn gone(rules: Rules, s: Session, bytes: &[u8]) -> Result<Progress, Answer>
+    ensures { result ≡ gone rules s bytes.now }
 {
     let (records, spare) = bytes.as_chunks::<8>();
     if !spare.is_empty() {
         return Err(Answer::SpareBytes);
     }
-    if checks::ill_formed(s) {
+    if checks::ill_formed(rules, s) {
         return Err(Answer::IllFormedSession);
     }
-    go(s, records).ok_or(Answer::IllFormedSession)
+    go(rules, s, records).ok_or(Answer::IllFormedSession)
 }
 
 // The run of a list of records from any session.
-pub fn run(s: Session, bytes: &[u8]) -> ListRun
-    ensures value { result ≡ list_run_of (run_def s bytes.now) }
+pub fn run(rules: Rules, s: Session, bytes: &[u8]) -> ListRun
+    ensures value { result ≡ list_run_of (run_def rules s bytes.now) }
     ensures bytes_kept { bytes.exit.now ≡ bytes.entry.now }
 {
-    match gone(s, bytes) {
+    match gone(rules, s, bytes) {
         Ok(p) => ListRun {
             answer: Answer::Done(0),
             session: p.session,
@@ -104,9 +104,9 @@ pub fn run(s: Session, bytes: &[u8]) -> ListRun
 }
 
 // The run of a list from a fresh session: demand 3 holds of it.
-pub fn run_fresh(bytes: &[u8]) -> ListRun
-    ensures runs_fresh { RunsFresh bytes.now result }
+pub fn run_fresh(rules: Rules, bytes: &[u8]) -> ListRun
+    ensures runs_fresh { RunsFresh rules bytes.now result }
     ensures bytes_kept { bytes.exit.now ≡ bytes.entry.now }
 {
-    run(driver::fresh(), bytes)
+    run(rules, driver::fresh(), bytes)
 }

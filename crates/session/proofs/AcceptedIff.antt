@@ -7,16 +7,18 @@ use Prim.Native.Nat.{ℕ, zero, suc, ◌+◌, ◌-◌, ◌<◌, ◌≤◌}
 use native.Mathlib.Nat.{add-suc, suc-add}
 use native.Mathlib.Omega.{arith}
 use lib.Dec.{eqb, ltb, leb}
-use lib.ListN.{length, get_or, drop}
-use borrow.Author.Tests.{leb-true, leb-false, le-leb, lt-leb, lt-ltb, le-ltb, eqb-true, eqb-false, not-false}
+use lib.ListN.{length, get_or, take, drop}
+use borrow.Author.Tests.{leb-true, leb-false, ltb-true, le-leb, lt-leb, lt-ltb, le-ltb, eqb-true, eqb-false, not-false}
+use Rattle.session.specs.declared.Rules.{Rules}
 use Rattle.session.specs.Records.{call}
 use Rattle.session.specs.History.{step_def}
 use Rattle.session.specs.Calls.{Program, nothing, programs, program_of, top_code, arguments_ok}
 use Rattle.session.specs.Machine.{Session, context_of, waits_now, ill_formed, begun, not_up, begin_def}
-use Rattle.session.specs.Refusals.{Row, call_rows, in_range}
+use Rattle.session.specs.Refusals.{Row, call_rows, rows_under, in_range}
 use Rattle.session.specs.Claim2.{Ready, bring_up, while_up, Accepted}
 use Rattle.session.specs.Claim1.{Accepts}
 use Rattle.ground.proofs.Facts.{cond_case, both, untrue}
+use Rattle.session.proofs.Table.{top_within}
 use Rattle.session.proofs.Accepts.{decide_accepts}
 
 -- the rows of the table of refusals against the programs, counted from code i
@@ -83,15 +85,62 @@ below_next k n = go (leb k n) refl
     go true e = let l : k ≤ n = leb-true k n e in sym (lt-ltb k (suc n) (omega arith))
     go false e = let l : n < k = leb-false k n e in sym (le-ltb k (suc n) (omega arith))
 
+-- programs past the last code that the rules have make no difference
+length_take : (n : ℕ) (ps : List Program) → n ≤ length ps → length (take n ps) ≡ n
+length_take zero ps h = refl
+length_take (suc n) [] h = absurd (omega (arith, h))
+length_take (suc n) (p ∷ ps) h = ap suc (length_take n ps (omega (arith, h)))
+
+get_take : (n k : ℕ) (ps : List Program) → k < n → get_or (take n ps) k nothing ≡ get_or ps k nothing
+get_take zero k ps h = absurd (omega (arith, h))
+get_take (suc n) zero [] h = refl
+get_take (suc n) (suc k) [] h = refl
+get_take (suc n) zero (p ∷ ps) h = refl
+get_take (suc n) (suc k) (p ∷ ps) h = get_take n k ps (omega (arith, h))
+
+of_those : (n : ℕ) (ps : List Program) (code a b : ℕ) → n ≤ length ps
+    → (leb 1 code && ltb code (suc n)) && (leb a (get_or ps (code - 1) nothing).greatest_a && leb b (get_or ps (code - 1) nothing).greatest_b)
+    ≡ within 1 (take n ps) code a b
+of_those n ps code a b h = go (leb 1 code) refl (ltb code (suc n)) refl
+  where
+    same : (x y : Bool) → leb 1 code ≡ x → ltb code (suc n) ≡ y
+        → (x && y) && (leb a (get_or ps (code - 1) nothing).greatest_a && leb b (get_or ps (code - 1) nothing).greatest_b)
+        ≡ (x && y) && (leb a (get_or (take n ps) (code - 1) nothing).greatest_a && leb b (get_or (take n ps) (code - 1) nothing).greatest_b)
+    same true true e e' =
+        let l : 1 ≤ code = leb-true 1 code e in
+        let u : code < suc n = ltb-true code (suc n) e' in
+        rw (get_take n (code - 1) ps (omega (arith, l, u)))
+    same true false e e' = refl
+    same false y e e' = refl
+
+    go : (x : Bool) → leb 1 code ≡ x → (y : Bool) → ltb code (suc n) ≡ y
+        → (leb 1 code && ltb code (suc n)) && (leb a (get_or ps (code - 1) nothing).greatest_a && leb b (get_or ps (code - 1) nothing).greatest_b)
+        ≡ within 1 (take n ps) code a b
+    go x e y e' = let one : 1 + n ≡ suc n = omega arith in rw (length_take n ps h, one, e, e') (same x y e e')
+
 -- the arguments that 13 lets pass are those of the table of refusals
-pub range_is : (code a b : ℕ) → arguments_ok code a b ≡ in_range code a b call_rows
-unfolding arguments_ok program_of programs call_rows
-range_is zero a b = refl
-range_is (suc k) a b =
-    ap (λ t. (leb 1 (suc k) && t) && (leb a (program_of (suc k)).greatest_a && leb b (program_of (suc k)).greatest_b)) (below_next (suc k) top_code)
-    ∙ ap (λ n. (leb 1 (suc k) && ltb (suc k) (suc top_code)) && (leb a (get_or (drop 1 programs) n nothing).greatest_a && leb b (get_or (drop 1 programs) n nothing).greatest_b)) (sym before)
-    ∙ within_is (drop 1 programs) 1 (suc k) a b
-    ∙ taken_is 1 (drop 1 programs) call_rows refl (suc k) a b
+abbrev called : Rules → List Program
+called rules = take (top_code rules) (drop 1 (programs rules))
+
+rows_fit : (rules : Rules) → same_ranges 1 (called rules) (rows_under rules) ≡ true
+unfolding programs top_code call_rows
+rows_fit Rules.First = refl
+rows_fit Rules.Current = refl
+
+none_out : (rules : Rules) (a b : ℕ) → false ≡ in_range 0 a b (rows_under rules)
+unfolding call_rows
+none_out Rules.First a b = refl
+none_out Rules.Current a b = refl
+
+pub range_is : (rules : Rules) (code a b : ℕ) → arguments_ok rules code a b ≡ in_range code a b (rows_under rules)
+unfolding arguments_ok program_of programs
+range_is rules zero a b = none_out rules a b
+range_is rules (suc k) a b =
+    ap (λ t. (leb 1 (suc k) && t) && (leb a (program_of rules (suc k)).greatest_a && leb b (program_of rules (suc k)).greatest_b)) (below_next (suc k) (top_code rules))
+    ∙ ap (λ n. (leb 1 (suc k) && ltb (suc k) (suc (top_code rules))) && (leb a (get_or (drop 1 (programs rules)) n nothing).greatest_a && leb b (get_or (drop 1 (programs rules)) n nothing).greatest_b)) (sym before)
+    ∙ of_those (top_code rules) (drop 1 (programs rules)) (suc k) a b (top_within rules)
+    ∙ within_is (called rules) 1 (suc k) a b
+    ∙ taken_is 1 (called rules) (rows_under rules) (rows_fit rules) (suc k) a b
   where
     before : suc k - 1 ≡ k
     before = omega arith
@@ -112,19 +161,19 @@ ok_ready s code h = go (eqb code 1) refl h
     go false e q = while_up (not-false s.driver.up q)
 
 -- of any session, also a waiting or an ill-formed one
-pub accepted_iff : (s : Session) (code a b : ℕ) → Accepts (step_def s (call code a b)) ↔ Accepted s code a b
+pub accepted_iff : (rules : Rules) (s : Session) (code a b : ℕ) → Accepts (step_def rules s (call code a b)) ↔ Accepted rules s code a b
 unfolding begin_def step_def
-accepted_iff s code a b = (there, back)
+accepted_iff rules s code a b = (there, back)
   where
-    there : Accepts (step_def s (call code a b)) → Accepted s code a b
+    there : Accepts (step_def rules s (call code a b)) → Accepted rules s code a b
     there =
-        cond_case (λ o. Accepts o → Accepted s code a b) (ill_formed s) (λ e h. absurd h)
-        (λ e. cond_case (λ o. Accepts o → Accepted s code a b) (not (arguments_ok code a b)) (λ e₁ h. absurd h)
-        (λ e₁. cond_case (λ o. Accepts o → Accepted s code a b) (waits_now s) (λ e₂ h. absurd h)
-        (λ e₂. cond_case (λ o. Accepts o → Accepted s code a b) (not_up code s.driver.up) (λ e₃ h. absurd h)
-        (λ e₃ h. record { none_waiting = eqb-true s.code 0 (not-false (eqb s.code 0) e₂); arguments = sym (range_is code a b) ∙ not-false (arguments_ok code a b) e₁; ready = ok_ready s code e₃ }))))
+        cond_case (λ o. Accepts o → Accepted rules s code a b) (ill_formed rules s) (λ e h. absurd h)
+        (λ e. cond_case (λ o. Accepts o → Accepted rules s code a b) (not (arguments_ok rules code a b)) (λ e₁ h. absurd h)
+        (λ e₁. cond_case (λ o. Accepts o → Accepted rules s code a b) (waits_now s) (λ e₂ h. absurd h)
+        (λ e₂. cond_case (λ o. Accepts o → Accepted rules s code a b) (not_up code s.driver.up) (λ e₃ h. absurd h)
+        (λ e₃ h. record { none_waiting = eqb-true s.code 0 (not-false (eqb s.code 0) e₂); arguments = sym (range_is rules code a b) ∙ not-false (arguments_ok rules code a b) e₁; ready = ok_ready s code e₃ }))))
 
-    back : Accepted s code a b → Accepts (step_def s (call code a b))
+    back : Accepted rules s code a b → Accepts (step_def rules s (call code a b))
     back h =
-        rw (h.none_waiting, range_is code a b ∙ h.arguments, ready_ok s code h.ready)
-        (decide_accepts ((program_of code).entry (context_of (begun s code a b))) (program_of code) (length (program_of code).steps) 0 (begun s code a b))
+        rw (h.none_waiting, range_is rules code a b ∙ h.arguments, ready_ok s code h.ready)
+        (decide_accepts ((program_of rules code).entry (context_of (begun s code a b))) (program_of rules code) (length (program_of rules code).steps) 0 (begun s code a b))

@@ -5,6 +5,7 @@ use mathlib.Core.List.{List, [], ◌∷◌}
 use Prim.Native.Nat.{ℕ, suc}
 use lib.Dec.{ltb}
 use lib.ListN.{drop}
+use Rattle.session.specs.declared.Rules.{Rules}
 use Rattle.session.specs.Bus.{Driver, Transfer, Answer, Reply, bad, good, wait_limit, idle_on}
 use Rattle.session.specs.Instructions.{Context, Verdict, onward, leap, stop, test, Op, write, read, wait, range, Final, success, failure, send_of}
 use Rattle.session.specs.Calls.{Program, ops_of, program_of}
@@ -54,15 +55,15 @@ pub react_accepts : (op : Op) (p : Program) (x : Session) (r : Reply) → Accept
 react_accepts op p x r = react_all Accepts x.code (λ t s. tt) (λ v n d. tt) (λ y s e. tt) op p x r refl
 
 -- a bring-up that waits, handed in with any fields
-pub bring_up_leaves_none : (s : Session) (f : ℕ) (bs : List ℕ) → s.code ≡ 1 → LeavesNone (reply_def s f bs)
+pub bring_up_leaves_none : (rules : Rules) (s : Session) (f : ℕ) (bs : List ℕ) → s.code ≡ 1 → LeavesNone (reply_def rules s f bs)
 unfolding reply_def
-bring_up_leaves_none s f bs e =
-    cond_case LeavesNone (ill_formed s) (λ h. tt)
-    (λ h. cond_case LeavesNone (not (waits_now s)) (λ h. tt) (λ h. go (drop s.step (ops_of (program_of s.code)))))
+bring_up_leaves_none rules s f bs e =
+    cond_case LeavesNone (ill_formed rules s) (λ h. tt)
+    (λ h. cond_case LeavesNone (not (waits_now s)) (λ h. tt) (λ h. go (drop s.step (ops_of (program_of rules s.code)))))
   where
-    go : (l : List Op) → LeavesNone (on_ops l (program_of s.code) s f bs)
+    go : (l : List Op) → LeavesNone (on_ops l (program_of rules s.code) s f bs)
     go [] = tt
     go (op ∷ l) =
         cond_case LeavesNone (stray (send_of op (context_of s)) f bs) (λ h. tt)
         (λ h. react_all LeavesNone 1 (λ t x. tt) (λ v n d q. clash cc)
-        (λ y x q z. rw q) op (program_of s.code) s (to_reply f bs) e)
+        (λ y x q z. rw q) op (program_of rules s.code) s (to_reply f bs) e)

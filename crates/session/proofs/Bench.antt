@@ -1,4 +1,5 @@
 -- The values of Bench (SCOPE 11.1), computed from the definitions.
+use borrow.Author.Rules.{rules as author}
 use mathlib.Core.Path.{◌≡◌, refl}
 use Prim.Native.Nat.{ℕ, ◌+◌, ◌*◌, ◌/◌, ◌%◌, ◌<◌}
 use native.Mathlib.Omega.{arith}
@@ -11,13 +12,14 @@ use Rattle.budget.specs.Sums.{dss_or_msrc, step_sum, budget_sum}
 use Rattle.timing.specs.Places.{timeout_place, period_place, less_place, entries_of, first_match, first_place}
 use Rattle.timing.specs.Timeouts.{timeout_clocks, period_clocks, pre_share, final_clocks, msrc_clocks, msrc_time, pre_time, final_time}
 use Rattle.clock.specs.Clock.{decoded_timeout, decoded_vcsel_period, microseconds_of}
+use Rattle.session.specs.declared.Rules.{Rules}
 use Rattle.session.specs.Bus.{Driver}
-use Rattle.session.specs.Calls.{tuning, programs, program_of, default_address, ceiling_of, arguments_ok}
+use Rattle.session.specs.Calls.{tuning, programs, program_of, default_address, top_code, ceiling_of, arguments_ok}
 use Rattle.session.specs.Machine.{arrive, stray, malformed, reply_def, begin_def, other_def}
 use Rattle.session.specs.Records.{call, reply, other, call_bytes, reply_bytes, records_of}
 use Rattle.session.specs.RustBringUp.{new, calls, rust}
 use Rattle.session.specs.History.{step_def, run_from, run_records, run_def}
-use Rattle.session.specs.Bench.{AnswerValues, CarriedPlaces, HeldValues, EdgeValues, SessionValues}
+use Rattle.session.specs.Bench.{AnswerValues, CarriedPlaces, HeldValues, RulesValues, EdgeValues, SessionValues}
 
 answer_values : AnswerValues
 answer_values = record {
@@ -39,44 +41,30 @@ answer_values = record {
   ill_formed_session = record { number = refl; values = refl };
 }
 
-carried_places : CarriedPlaces
-unfolding reply_def malformed stray arrive program_of programs tuning arguments_ok ceiling_of decoded_timeout decoded_vcsel_period microseconds_of timeout_clocks period_clocks pre_share final_clocks msrc_clocks msrc_time pre_time final_time timeout_place period_place less_place entries_of first_match first_place dss_or_msrc step_sum budget_sum measurement_timing_budget
-carried_places = record {
-  pre_before_final = refl;
-  final_before_period = refl;
-  less_before_period = refl;
-  period_before_msrc = refl;
-  pre_before_all = refl;
-  msrc_before_last = refl;
-  period_before_last = refl;
-  none = refl;
-  failed = refl;
-}
+-- by each of the rules, since what they change is computed for one of them at a time
+carried_places : (rules : Rules) → CarriedPlaces rules
+unfolding reply_def malformed stray arrive program_of programs top_code tuning arguments_ok ceiling_of decoded_timeout decoded_vcsel_period microseconds_of timeout_clocks period_clocks pre_share final_clocks msrc_clocks msrc_time pre_time final_time timeout_place period_place less_place entries_of first_match first_place dss_or_msrc step_sum budget_sum measurement_timing_budget
+carried_places Rules.First = search author
+carried_places Rules.Current = search author
 
-held_values : HeldValues
-unfolding reply_def malformed stray arrive program_of programs tuning arguments_ok ceiling_of
-held_values = record { any_address = refl; twelve_bits = refl; short_budget = refl; no_period = refl; no_period_mode = refl; pair = refl; at_ceiling = refl; over_ceiling = refl }
+held_values : (rules : Rules) → HeldValues rules
+unfolding reply_def malformed stray arrive program_of programs top_code tuning arguments_ok ceiling_of
+held_values Rules.First = search author
+held_values Rules.Current = search author
 
-edge_values : EdgeValues
-unfolding step_def begin_def malformed arrive program_of programs tuning arguments_ok ceiling_of signal_rate_limit_word rate_of in_range literal round units odd size climb span of_bits of_fields le lt eq
-edge_values = record { codes = refl; addresses = refl; thresholds = refl; gpio = refl; long = refl; unused = refl }
+pub rules_values : RulesValues
+unfolding step_def begin_def malformed arrive program_of programs top_code tuning arguments_ok ceiling_of
+rules_values = record { by_first = refl; by_current = refl; most_by_first = refl; most_by_current = refl }
 
-pub session_values : SessionValues
-unfolding run_def run_records records_of run_from step_def begin_def reply_def other_def malformed stray arrive program_of programs tuning arguments_ok ceiling_of
-session_values = record {
-  answers = answer_values;
-  carried = carried_places;
-  held = held_values;
-  rest = λ d. refl;
-  edges = edge_values;
-  refused = refl;
-  counted = refl;
-  fresh = refl;
-  call_record = refl;
-  reply_record = refl;
-  other_records = refl;
-  printed = refl;
-}
+edge_values : (rules : Rules) → EdgeValues rules
+unfolding step_def begin_def malformed arrive program_of programs top_code tuning arguments_ok ceiling_of signal_rate_limit_word rate_of in_range literal round units odd size climb span of_bits of_fields le lt eq
+edge_values Rules.First = search author
+edge_values Rules.Current = search author
+
+pub session_values : (rules : Rules) → SessionValues rules
+unfolding run_def run_records records_of run_from step_def begin_def reply_def other_def malformed stray arrive program_of programs top_code tuning arguments_ok ceiling_of
+session_values Rules.First = search (author, answer_values, carried_places, held_values, edge_values)
+session_values Rules.Current = search (author, answer_values, carried_places, held_values, edge_values)
 
 -- a record's bytes are read back, and no other kind is a call or a reply
 pub call_read : (code a b : ℕ) (l : List ℕ) → a < 4294967296 → b < 65536 → records_of (call_bytes code a b ++ l) ≡ call code a b ∷ records_of l
@@ -100,6 +88,6 @@ unfolding records_of
 no_kind k x b₂ b₃ b₄ b₅ b₆ b₇ l h₁ h₂ = rw (ne_eqb k 1 h₁, ne_eqb k 2 h₂)
 
 -- `new` is call 1 at the default address
-pub new_is_call_1 : (d : Driver) → rust d 1 default_address 0 ≡ new
+pub new_is_call_1 : (rules : Rules) (d : Driver) → rust rules d 1 default_address 0 ≡ new rules
 unfolding rust calls
-new_is_call_1 d = refl
+new_is_call_1 rules d = refl

@@ -14,8 +14,10 @@ use Rattle.timing.specs.Timeouts.{time_in, timeout_clocks, pre_share}
 use Rattle.timing.specs.Places.{first_place}
 use Rattle.budget.specs.Sums.{budget_sum, used_sum}
 use Rattle.budget.specs.Budget.{measurement_timing_budget, word_of_sum, word_within, final_range_word}
+use Rattle.session.specs.declared.Rules.{Rules}
 use Rattle.session.specs.Bus.{Answer}
-use Rattle.session.specs.Steps.{dss_of_call9, word_in}
+use Rattle.session.specs.Rules.{dss_of}
+use Rattle.session.specs.Steps.{word_in}
 use Rattle.session.specs.RustFn.{ok, err, Fn, ◌>>=◌, ◌>>◌, Ok, panic, if, set_self_budget, write_16bit}
 use Rattle.session.specs.RustClocks.{over_u32, encode_timeout, calc_macro_period, timeout_microseconds_to_mclks, add_if}
 use Rattle.session.specs.RustCalls.{Enables, Timeouts, budget_microseconds, use_budget_microseconds, get_measurement_timing_budget, set_budget_from_reads, set_measurement_timing_budget}
@@ -31,9 +33,9 @@ pub budget_of : (r : TimingRegisters) → budget_microseconds (enables_in r) (ti
 unfolding budget_sum
 budget_of r = rw (budget_is, bit_on_is)
 
-pub used_of : (r : TimingRegisters) → use_budget_microseconds (enables_in r) (timeouts_in r) ≡ (used_sum r dss_of_call9).0
+pub used_of : (rules : Rules) (r : TimingRegisters) → use_budget_microseconds rules (enables_in r) (timeouts_in r) ≡ (used_sum r (dss_of rules)).0
 unfolding used_sum
-used_of r = rw (used_is, bit_on_is)
+used_of rules r = rw (used_is rules, bit_on_is)
 
 -- ---- call 15
 pub get_is : get_measurement_timing_budget ≡ six {A = ℕ} (λ r. Ok (time_in (measurement_timing_budget r)).0)
@@ -43,30 +45,30 @@ get_is =
     ∙ six_same (λ r. Ok (budget_microseconds (enables_in r) (timeouts_in r))) (λ r. Ok (time_in (measurement_timing_budget r)).0)
     (λ r h. rw (h, budget_of r))
 
-abbrev pub write_final : TimingRegisters → ℕ → Fn Bool
-write_final r budget = do
-  write_16bit 0x71 (word_in (final_range_word r (record { 0 = budget }) dss_of_call9))
+abbrev pub write_final : Rules → TimingRegisters → ℕ → Fn Bool
+write_final rules r budget = do
+  write_16bit 0x71 (word_in (final_range_word r (record { 0 = budget }) (dss_of rules)))
   set_self_budget budget
   Ok true
 
-abbrev pub tested : TimingRegisters → ℕ → Fn Bool
-tested r budget chip ret =
-    cond (ltb budget (used_sum r dss_of_call9).0) (ret (ok false) chip)
-    (cond (ltb 4294967295 (spare_sum dss_of_call9 r budget)) (ret (err (Answer.Panic 7)) chip)
+abbrev pub tested : Rules → TimingRegisters → ℕ → Fn Bool
+tested rules r budget chip ret =
+    cond (ltb budget (used_sum r (dss_of rules)).0) (ret (ok false) chip)
+    (cond (ltb 4294967295 (spare_sum (dss_of rules) r budget)) (ret (err (Answer.Panic 7)) chip)
     (cond (eqb (final_macro r) 0) (ret (err (Answer.Panic 8)) chip)
-    (cond (ltb 65535 (total_clocks dss_of_call9 r budget)) (ret (err (Answer.Panic 9)) chip)
-    (write_final r budget chip ret))))
+    (cond (ltb 65535 (total_clocks (dss_of rules) r budget)) (ret (err (Answer.Panic 9)) chip)
+    (write_final rules r budget chip ret))))
 
 -- once the tests are passed
-final_word : (r : TimingRegisters) (budget : ℕ)
+final_word : (rules : Rules) (r : TimingRegisters) (budget : ℕ)
     → first_place r 6 ≡ None
-    → ltb budget (used_sum r dss_of_call9).0 ≡ false
-    → ltb 4294967295 (spare_sum dss_of_call9 r budget) ≡ false
+    → ltb budget (used_sum r (dss_of rules)).0 ≡ false
+    → ltb 4294967295 (spare_sum (dss_of rules) r budget) ≡ false
     → eqb (final_macro r) 0 ≡ false
-    → ltb 65535 (total_clocks dss_of_call9 r budget) ≡ false
-    → encode_timeout (total_clocks dss_of_call9 r budget) ≡ word_in (final_range_word r (record { 0 = budget }) dss_of_call9)
+    → ltb 65535 (total_clocks (dss_of rules) r budget) ≡ false
+    → encode_timeout (total_clocks (dss_of rules) r budget) ≡ word_in (final_range_word r (record { 0 = budget }) (dss_of rules))
 unfolding final_range_word word_within mclks_of word_of_sum
-final_word r budget h e₁ e₂ e₃ e₄ = rw (h, e₁, e₂, e₃, e₄) (encode_is (total_clocks dss_of_call9 r budget) (omega (arith, ltb-false 65535 (total_clocks dss_of_call9 r budget) e₄)))
+final_word rules r budget h e₁ e₂ e₃ e₄ = rw (h, e₁, e₂, e₃, e₄) (encode_is (total_clocks (dss_of rules) r budget) (omega (arith, ltb-false 65535 (total_clocks (dss_of rules) r budget) e₄)))
 
 -- the product is at most the sum, so one test serves both
 clocks_is : timeout_microseconds_to_mclks
@@ -83,35 +85,35 @@ add_is true x y h = refl
 add_is false x y h = rw (add-zero x, le-ltb 65535 x (omega arith))
 
 -- set_measurement_timing_budget after its reads
-abbrev set_rest : ℕ → Enables → Timeouts → Fn Bool
-set_rest budget enables timeouts =
-    if (ltb budget (use_budget_microseconds enables timeouts))
+abbrev set_rest : Rules → ℕ → Enables → Timeouts → Fn Bool
+set_rest rules budget enables timeouts =
+    if (ltb budget (use_budget_microseconds rules enables timeouts))
     (Ok false)
     (do
-      clocks ← timeout_microseconds_to_mclks (budget - use_budget_microseconds enables timeouts) timeouts.final_range_vcsel_period_pclks
+      clocks ← timeout_microseconds_to_mclks (budget - use_budget_microseconds rules enables timeouts) timeouts.final_range_vcsel_period_pclks
       total ← add_if enables.pre_range (clocks % 65536) timeouts.pre_range_mclks
       write_16bit 0x71 (encode_timeout total)
       set_self_budget budget
       Ok true)
 
-tests_are : (r : TimingRegisters) (budget : ℕ) → first_place r 6 ≡ None → set_rest budget (enables_in r) (timeouts_in r) ≡ tested r budget
+tests_are : (rules : Rules) (r : TimingRegisters) (budget : ℕ) → first_place r 6 ≡ None → set_rest rules budget (enables_in r) (timeouts_in r) ≡ tested rules r budget
 unfolding pre_share
-tests_are r budget h = fun_ext (λ chip. fun_ext (λ ret.
-    rw (used_of r, clocks_is, bit_on_is)
-    (cond_both (ltb budget (used_sum r dss_of_call9).0) (λ e. refl)
-    (λ e₁. cond_both (ltb 4294967295 (spare_sum dss_of_call9 r budget)) (λ e. refl)
+tests_are rules r budget h = fun_ext (λ chip. fun_ext (λ ret.
+    rw (used_of rules r, clocks_is, bit_on_is)
+    (cond_both (ltb budget (used_sum r (dss_of rules)).0) (λ e. refl)
+    (λ e₁. cond_both (ltb 4294967295 (spare_sum (dss_of rules) r budget)) (λ e. refl)
     (λ e₂. cond_both (eqb (final_macro r) 0) (λ e. refl)
     (λ e₃.
-    let n = spare_sum dss_of_call9 r budget / final_macro r % 65536 in
+    let n = spare_sum (dss_of rules) r budget / final_macro r % 65536 in
     rw (add_is (sequence_step_enables r.sequence).prerange n (timeout_clocks r.pretimeout).0 (omega arith))
-    (cond_both (ltb 65535 (total_clocks dss_of_call9 r budget)) (λ e. refl)
-    (λ e₄. rw (final_word r budget h e₁ e₂ e₃ e₄)))))))))
+    (cond_both (ltb 65535 (total_clocks (dss_of rules) r budget)) (λ e. refl)
+    (λ e₄. rw (final_word rules r budget h e₁ e₂ e₃ e₄)))))))))
 
-pub rest_is : set_budget_from_reads ≡ (λ budget. six (λ r. tested r budget))
-rest_is = fun_ext (λ budget.
-    reads_are (set_rest budget)
-    ∙ six_same (λ r. set_rest budget (enables_in r) (timeouts_in r)) (λ r. tested r budget) (λ r h. tests_are r budget h))
+pub rest_is : (rules : Rules) → set_budget_from_reads rules ≡ (λ budget. six (λ r. tested rules r budget))
+rest_is rules = fun_ext (λ budget.
+    reads_are (set_rest rules budget)
+    ∙ six_same (λ r. set_rest rules budget (enables_in r) (timeouts_in r)) (λ r. tested rules r budget) (λ r h. tests_are rules r budget h))
 
-pub set_is : set_measurement_timing_budget ≡ (λ budget. if (ltb budget 20000) (Ok false) (six (λ r. tested r budget)))
+pub set_is : (rules : Rules) → set_measurement_timing_budget rules ≡ (λ budget. if (ltb budget 20000) (Ok false) (six (λ r. tested rules r budget)))
 unfolding set_measurement_timing_budget
-set_is = fun_ext (λ budget. ap (λ f. if (ltb budget 20000) (Ok false) (f budget)) rest_is)
+set_is rules = fun_ext (λ budget. ap (λ f. if (ltb budget 20000) (Ok false) (f budget)) (rest_is rules))

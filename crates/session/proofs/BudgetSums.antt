@@ -5,8 +5,10 @@ use Prim.Native.Nat.{ℕ, ◌+◌, ◌*◌}
 use native.Mathlib.Nat.{add-zero}
 use Rattle.timing.specs.declared.SeqStepEnables.{SeqStepEnables}
 use Rattle.budget.specs.declared.DssTerm.{DssTerm}
-use Rattle.budget.specs.Sums.{dss_or_msrc, step_sum}
-use Rattle.session.specs.RustCalls.{Enables, budget_microseconds, use_budget_microseconds}
+use Rattle.budget.specs.Sums.{dss_of as overhead, dss_or_msrc, step_sum}
+use Rattle.session.specs.declared.Rules.{Rules}
+use Rattle.session.specs.Rules.{dss_of}
+use Rattle.session.specs.RustCalls.{Enables, budget_microseconds, dss_microseconds, use_budget_microseconds}
 
 abbrev pub steps_of : Enables → SeqStepEnables
 steps_of e = record { tcc = e.tcc; dss = e.dss; msrc = e.msrc; prerange = e.pre_range; finalrange = e.final_range }
@@ -36,10 +38,16 @@ budget_is = fun_ext (λ e. fun_ext (λ t.
     sums e.tcc e.dss e.msrc e.pre_range e.final_range (1910 + 960)
     (msrc + 590) (2 * (msrc + 690)) (msrc + 660) (t.pre_range_microseconds + 660) (t.final_range_microseconds + 550)))
 
-pub used_is : use_budget_microseconds
-    ≡ (λ e t. step_sum (steps_of e) 1320 DssTerm.Once t.msrc_dss_tcc_microseconds t.pre_range_microseconds 550)
+-- DSS, as the rules count it
+overhead_is : (rules : Rules) (msrc : ℕ) → dss_microseconds rules msrc ≡ overhead (dss_of rules) msrc
+overhead_is Rules.First msrc = refl
+overhead_is Rules.Current msrc = refl
+
+pub used_is : (rules : Rules) → use_budget_microseconds rules
+    ≡ (λ e t. step_sum (steps_of e) 1320 (dss_of rules) t.msrc_dss_tcc_microseconds t.pre_range_microseconds 550)
 unfolding use_budget_microseconds step_sum dss_or_msrc
-used_is = fun_ext (λ e. fun_ext (λ t.
+used_is rules = fun_ext (λ e. fun_ext (λ t.
     let msrc = t.msrc_dss_tcc_microseconds in
-    sums e.tcc e.dss e.msrc e.pre_range e.final_range (1320 + 960)
-    (msrc + 590) (2 * msrc + 690) (msrc + 660) (t.pre_range_microseconds + 660) 550))
+    rw (overhead_is rules msrc)
+    (sums e.tcc e.dss e.msrc e.pre_range e.final_range (1320 + 960)
+    (msrc + 590) (overhead (dss_of rules) msrc) (msrc + 660) (t.pre_range_microseconds + 660) 550)))

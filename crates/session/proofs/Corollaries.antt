@@ -7,10 +7,11 @@ use Prim.Native.Nat.{ℕ, zero, suc, ◌≤◌, zero-le}
 use native.Mathlib.Omega.{arith}
 use native.Mathlib.Nat.{le_of_suc-le-suc, not-suc-le-zero}
 use lib.Dec.{T}
+use Rattle.session.specs.declared.Rules.{Rules}
 use Rattle.session.specs.Bus.{Condition}
 use Rattle.session.specs.Machine.{fresh_session}
 use Rattle.session.specs.History.{run_def, Exchange, calls_of, transfers_of}
-use Rattle.session.specs.Claim3.{ceiling_in, floor_in, read_of, idle_reply, idle_reads, All, Lawful, LawfulBeyond, LastIdle, BringUpCount}
+use Rattle.session.specs.Claim3.{most_in, ceiling_in, floor_in, most_in, read_of, idle_reply, idle_reads, All, Lawful, LawfulBeyond, LastIdle, BringUpCount}
 use Rattle.session.proofs.Lawful.{all_two}
 use Rattle.session.proofs.Demand3.{demand_3}
 
@@ -24,9 +25,9 @@ last_idle (suc n) x code (e ∷ es) = go (read_of x code e.sent es && idle_reply
     go true ih = (λ h. (tt, ih.0 (le_of_suc-le-suc h)), λ h. omega (arith, ih.1 h.1))
     go false ih = (λ h. absurd (not-suc-le-zero h), λ h. absurd h.0)
 
-pub bring_up_count : (bytes : List ℕ) → All BringUpCount (calls_of (run_def fresh_session bytes).history)
-unfolding floor_in ceiling_in
-bring_up_count bytes =
-    all_two Lawful LawfulBeyond BringUpCount
-    (λ c h k e d. (subst (λ n. floor_in n ≤ transfers_of c) e (k.floor d), subst (λ n. transfers_of c ≤ ceiling_in n) e h.ceiling))
-    (calls_of (run_def fresh_session bytes).history) (demand_3 bytes).demand.calls (demand_3 bytes).beyond.calls
+pub bring_up_count : (rules : Rules) (bytes : List ℕ) → All (BringUpCount rules) (calls_of (run_def rules fresh_session bytes).history)
+unfolding floor_in most_in
+bring_up_count rules bytes =
+    all_two (Lawful rules) LawfulBeyond (BringUpCount rules)
+    (λ c h k e d. (subst (λ n. floor_in n ≤ transfers_of c) e (k.floor d), subst (λ n. transfers_of c ≤ ceiling_in rules n) e h.ceiling))
+    (calls_of (run_def rules fresh_session bytes).history) (demand_3 rules bytes).demand.calls (demand_3 rules bytes).beyond.calls

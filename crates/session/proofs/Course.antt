@@ -6,6 +6,7 @@ use Prim.Native.Nat.{ℕ, zero, suc}
 use native.Mathlib.Omega.{arith}
 use lib.ListN.{length, get_or, drop}
 use Rattle.std.specs.List.{drop-map}
+use Rattle.session.specs.declared.Rules.{Rules}
 use Rattle.session.specs.Bus.{Answer}
 use Rattle.session.specs.Instructions.{Instruction, Context, range_slot, wait, Final, success, failure, send_of}
 use Rattle.session.specs.Steps.{slot_word, op_of}
@@ -46,46 +47,46 @@ range_ends c c' o = go c.failed c'.failed o.0
     go (suc n) zero e = absurd (omega (arith, e))
     go (suc n) (suc n') e = tt
 
-ends_alike : (code : ℕ) → EndsAlike code (program_of code)
+ends_alike : (rules : Rules) (code : ℕ) → EndsAlike code (program_of rules code)
 unfolding programs ends_by
-ends_alike =
-    of_table EndsAlike (λ k c c' o. tt) (search range_ends)
+ends_alike rules =
+    of_table rules EndsAlike (λ k c c' o. tt) (search range_ends)
 
-all_ok : (code : ℕ) → walk (step_ok (looked_at code) (arrival code) []) 0 (program_of code).steps ≡ true
+all_ok : (rules : Rules) (code : ℕ) → walk (step_ok (looked_at code) (arrival code) []) 0 (program_of rules code).steps ≡ true
 unfolding programs tuning course_rows ends_by
-all_ok = of_test (λ k p. walk (step_ok (looked_at k) (arrival k) []) 0 p.steps) (λ k. refl) refl
+all_ok rules = of_test rules (λ k p. walk (step_ok (looked_at k) (arrival k) []) 0 p.steps) (λ k. refl) refl
 
 record Pair (code : ℕ) (s s' : Session) : Type 0 where
   one : s.code ≡ code
   other : s'.code ≡ code
   room : length s.carried ≡ length s'.carried
 
-module _ (code : ℕ) where
+module _ (rules : Rules) (code : ℕ) where
   ends : (f f' : Final) (s s' : Session) → SameEnd f f' → SameCourse (conclude f s) (conclude f' s')
   ends (success v d) (success v' d') s s' h = both_end (Answer.Done v) (Answer.Done v') _ _ _ _ refl
   ends (success v d) (failure e) s s' h = absurd h
   ends (failure e) (success v d) s s' h = absurd h
   ends (failure e) (failure e') s s' h = both_end (Answer.BusError e) (Answer.BusError e') _ _ _ _ refl
 
-  arrives : (k : ℕ) (s s' : Session) → Pair code s s' → On (arrival code k (drop k (program_of code).steps)) (context_of s) (context_of s')
-      → SameCourse (arrive (program_of code) k s) (arrive (program_of code) k s')
+  arrives : (k : ℕ) (s s' : Session) → Pair code s s' → On (arrival code k (drop k (program_of rules code).steps)) (context_of s) (context_of s')
+      → SameCourse (arrive (program_of rules code) k s) (arrive (program_of rules code) k s')
   unfolding arrive
-  arrives k s s' t o = rw (drop-map op_of k (program_of code).steps) (go (drop k (program_of code).steps) o)
+  arrives k s s' t o = rw (drop-map op_of k (program_of rules code).steps) (go (drop k (program_of rules code).steps) o)
     where
       go : (l : List Instruction) → On (arrival code k l) (context_of s) (context_of s')
-          → SameCourse (enter (program_of code).final (map op_of l) k s) (enter (program_of code).final (map op_of l) k s')
-      go [] o = ends ((program_of code).final (context_of s)) ((program_of code).final (context_of s')) s s' (ends_alike code (context_of s) (context_of s') o)
+          → SameCourse (enter (program_of rules code).final (map op_of l) k s) (enter (program_of rules code).final (map op_of l) k s')
+      go [] o = ends ((program_of rules code).final (context_of s)) ((program_of rules code).final (context_of s')) s s' (ends_alike rules code (context_of s) (context_of s') o)
       go (i ∷ is) o = both_go_on (send_of (op_of i) (context_of s)) (send_of (op_of i) (context_of s')) (sending k 0 s) (sending k 0 s') refl refl
 
-pub course_looks_at : (s s' : Session) (f : ℕ) (bs : List ℕ) → CourseLooksAt s s' f bs
-course_looks_at s s' f bs u u' g =
-    instruction_there s (sound_of s u).1 (λ i is at.
+pub course_looks_at : (rules : Rules) (s s' : Session) (f : ℕ) (bs : List ℕ) → CourseLooksAt rules s s' f bs
+course_looks_at rules s s' f bs u u' g =
+    instruction_there rules s (sound_of rules s u).1 (λ i is at.
     let t : Pair s.code s s' = record { one = refl; other = sym g.code; room = g.room } in
     let o : On (looked_at s.code s.step) (context_of s) (context_of s') = parts_on (looked_at s.code s.step) s s' g.parts in
-    replies s.code SameCourse (Pair s.code) (looked_at s.code) (arrival s.code) [] (all_ok s.code)
+    replies rules s.code SameCourse (Pair s.code) (looked_at s.code) (arrival s.code) [] (all_ok rules s.code)
     (λ x y t. t.one) (λ x y t. t.other) (λ x y t. t.room)
     (λ x y op r t. record { one = t.one; other = t.other; room = kept_room op r x y t.room })
-    (arrives s.code)
+    (arrives rules s.code)
     (λ k i w x y t o. both_go_on (send_of (wait w) (context_of x)) (send_of (wait w) (context_of y)) (sending k i x) (sending k i y) refl refl)
     (λ a x y t. both_end a a _ _ _ _ refl)
     (λ x y. both_refuse Answer.StrayByte x y)

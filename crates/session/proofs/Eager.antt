@@ -9,9 +9,10 @@ use lib.Dec.{eqb, leb}
 use lib.ListN.{drop}
 use Rattle.std.specs.Prelude.{None}
 use Rattle.timing.specs.Places.{first_place}
+use Rattle.session.specs.declared.Rules.{Rules}
 use Rattle.session.specs.Bus.{Transfer, Answer, Reply, bad, good, wait_limit, idle_on}
 use Rattle.session.specs.Instructions.{Instruction, Context, Op, write, read, wait, range, Final, timing_slot, bytes_from, timing_in, send_of}
-use Rattle.session.specs.Steps.{slot, by_word, dss_of_call9, budget_to_set, word_to_set, no_time, over_last, timing_length, op_of}
+use Rattle.session.specs.Steps.{slot, by_word, budget_to_set, word_to_set, no_time, over_last, timing_length, op_of}
 use Rattle.session.specs.Calls.{ops_of, tuning, programs, program_of}
 use Rattle.session.specs.Script.{Script, done, send, on_reply, wait_loop}
 use Rattle.ground.proofs.Facts.{both, clash}
@@ -29,7 +30,7 @@ Clear m j c = first_place (timing_in j c.carried) m ≡ None
 abbrev is_other : {i : Instruction} → Kind i → Bool
 is_other (timing n k) = false
 is_other found = false
-is_other (last k x) = false
+is_other (last k x dss) = false
 is_other other = true
 
 abbrev plain : List Instruction → Bool
@@ -57,20 +58,20 @@ follows (suc (suc i)) k m j = eqb m (suc i) && (eqb j k && leb m 5)
 abbrev fits : {i : Instruction} → ℕ → ℕ → Kind i → List Instruction → Bool
 fits m j (timing n k) is = follows n k m j
 fits m j found is = follows 6 timing_slot m j
-fits m j (last k x) is = follows 6 k m j && plain_after (over_last x) is
+fits m j (last k x dss) is = follows 6 k m j && plain_after (over_last x) is
 fits m j (other {i}) is = plain_after (over_of (op_of i)) is
 
 -- what is clear after it
 abbrev replies_by : {i : Instruction} → Kind i → ℕ
 replies_by (timing n k) = n
 replies_by found = 6
-replies_by (last k x) = 0
+replies_by (last k x dss) = 0
 replies_by other = 0
 
 abbrev slot_by : {i : Instruction} → Kind i → ℕ
 slot_by (timing n k) = k
 slot_by found = timing_slot
-slot_by (last k x) = 0
+slot_by (last k x dss) = 0
 slot_by other = 0
 
 -- each of the list fits in
@@ -103,7 +104,7 @@ plain_same (i ∷ is) h =
     one : {i : Instruction} (x : Kind i) → is_other x ≡ true → op_of i ≡ once_by x
     one (timing n k) q = clash cc
     one found q = clash cc
-    one (last k x) q = clash cc
+    one (last k x dss) q = clash cc
     one other q = refl
 
 send_same : (t : Transfer) (fail : ℕ → Script) {g g' : List ℕ → Script} → ((bs : List ℕ) → g bs ≡ g' bs)
@@ -165,14 +166,14 @@ module _ (fin : Context → Final) where
       let c' : Context = keeping c (op_of Instruction.FindBudget) (good bs) in
       place_same (first_place (timing_in timing_slot c'.carried) 6) 0 c' _ _ (λ e. s c' e)
       ∙ first_agrees (timing_in timing_slot c'.carried) 5 (stays 5 timing_slot m j c bs h p) 0 c' _)
-  step_same (last k x) is m j c h p s =
+  step_same (last k x dss) is m j c h p s =
       let q = both (follows 6 k m j) (plain_after (over_last x) is) h in
       send_same _ _
       (λ bs.
-      let c' : Context = keeping c (op_of (Instruction.ReadLast k x)) (good bs) in
+      let c' : Context = keeping c (op_of (Instruction.ReadLast k x dss)) (good bs) in
       let t : Same is c' = s c' (none_known _) in
-      verdict_same (by_word (no_time x) (word_to_set k x c')) (over_last x) c' _ _ t (leap_same (over_last x) is c' q.1 t)
-      ∙ word_agrees dss_of_call9 (no_time x) (timing_in k c'.carried) (budget_to_set x c') (stays 5 k m j c bs q.0 p) (over_last x) c' _)
+      verdict_same (by_word (no_time x) (word_to_set k x dss c')) (over_last x) c' _ _ t (leap_same (over_last x) is c' q.1 t)
+      ∙ word_agrees dss (no_time x) (timing_in k c'.carried) (budget_to_set x c') (stays 5 k m j c bs q.0 p) (over_last x) c' _)
   step_same (other {i}) is m j c h p s = other_same (op_of i) is c h (λ c'. s c' (none_known _))
 
   pub once : (is : List Instruction) (m j : ℕ) (c : Context) → ordered m j is ≡ true → Clear m j c → Same is c
@@ -182,10 +183,10 @@ module _ (fin : Context → Final) where
       step_same (kind_of i) is m j c q.0 p (λ c' p'. once is (replies_by (kind_of i)) (slot_by (kind_of i)) c' q.1 p')
 
 -- the table of calls
-all_ordered : (code : ℕ) → ordered 0 0 (program_of code).steps ≡ true
+all_ordered : (rules : Rules) (code : ℕ) → ordered 0 0 (program_of rules code).steps ≡ true
 unfolding programs tuning
-all_ordered = of_test (λ k p. ordered 0 0 p.steps) (λ k. refl) refl
+all_ordered rules = of_test rules (λ k p. ordered 0 0 p.steps) (λ k. refl) refl
 
-pub made_once : (code : ℕ) (c : Context)
-    → resume (program_of code).final zero (ops_of (program_of code)) c ≡ resume (program_of code).final zero (map once_of (program_of code).steps) c
-made_once code c = once (program_of code).final (program_of code).steps 0 0 c (all_ordered code) (none_known _)
+pub made_once : (rules : Rules) (code : ℕ) (c : Context)
+    → resume (program_of rules code).final zero (ops_of (program_of rules code)) c ≡ resume (program_of rules code).final zero (map once_of (program_of rules code).steps) c
+made_once rules code c = once (program_of rules code).final (program_of rules code).steps 0 0 c (all_ordered rules code) (none_known _)

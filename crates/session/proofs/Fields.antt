@@ -1,4 +1,5 @@
 -- The fields that a bring-up leaves, and the value of call 15, are those that the bus showed.
+use Rattle.session.specs.declared.Rules.{Rules}
 use Rattle.session.proofs.Table.{address_fits}
 use mathlib.Core.Path.{◌≡◌, refl, sym, subst, ◌∙◌, ap}
 use mathlib.Core.Bool.{Bool, true, false, cond}
@@ -26,16 +27,16 @@ abbrev reads : ℕ → ℕ → ℕ → Track
 reads reg slot len = record { reg = reg; slot = slot; len = len }
 
 -- the six budget reads, in a call that keeps them from slot 8 on
-pub record Six (code : ℕ) : Type 0 where
-  pub s01 : Sound (reads 0x01 8 1) code
-  pub s51 : Sound (reads 0x51 9 2) code
-  pub s71 : Sound (reads 0x71 11 2) code
-  pub s50 : Sound (reads 0x50 13 1) code
-  pub s46 : Sound (reads 0x46 14 1) code
-  pub s70 : Sound (reads 0x70 15 1) code
-  pub owns : Owns code
+pub record Six (rules : Rules) (code : ℕ) : Type 0 where
+  pub s01 : Sound rules (reads 0x01 8 1) code
+  pub s51 : Sound rules (reads 0x51 9 2) code
+  pub s71 : Sound rules (reads 0x71 11 2) code
+  pub s50 : Sound rules (reads 0x50 13 1) code
+  pub s46 : Sound rules (reads 0x46 14 1) code
+  pub s70 : Sound rules (reads 0x70 15 1) code
+  pub owns : Owns rules code
 
-module _ (code : ℕ) (six : Six code) (l : List ℕ) (found_budget : ℕ) (ex : List Exchange) (tr : (t : Track) → Sound t code → Traced t l [] ex) (ow : Owns code → Owned found_budget l [] ex) where
+module _ (rules : Rules) (code : ℕ) (six : Six rules code) (l : List ℕ) (found_budget : ℕ) (ex : List Exchange) (tr : (t : Track) → Sound rules t code → Traced t l [] ex) (ow : Owns rules code → Owned found_budget l [] ex) where
   own_is : found_budget ≡ budget_of_first ex
   unfolding IsLe
   own_is =
@@ -52,47 +53,47 @@ module _ (code : ℕ) (six : Six code) (l : List ℕ) (found_budget : ℕ) (ex :
       ∙ (λ i. (time_in (measurement_timing_budget (registers_of (q01 i ∷ q51 i ∷ q51' i ∷ q71 i ∷ q71' i ∷ q50 i ∷ q46 i ∷ q70 i ∷ [])))).0)
       ∙ sym (value_is (first_byte 0x01 0 ex) (first_byte 0x51 0 ex) (first_byte 0x51 1 ex) (first_byte 0x71 0 ex) (first_byte 0x71 1 ex) (first_byte 0x50 0 ex) (first_byte 0x46 0 ex) (first_byte 0x70 0 ex))
 
-six_1 : Six 1
+six_1 : (rules : Rules) → Six rules 1
 unfolding program_of programs tuning
-six_1 = record { s01 = refl; s51 = refl; s71 = refl; s50 = refl; s46 = refl; s70 = refl; owns = refl }
+six_1 rules = record { s01 = refl; s51 = refl; s71 = refl; s50 = refl; s46 = refl; s70 = refl; owns = refl }
 
-six_15 : Six 15
+six_15 : (rules : Rules) → Six rules 15
 unfolding program_of programs
-six_15 = record { s01 = refl; s51 = refl; s71 = refl; s50 = refl; s46 = refl; s70 = refl; owns = refl }
+six_15 rules = record { s01 = refl; s51 = refl; s71 = refl; s50 = refl; s46 = refl; s70 = refl; owns = refl }
 
-pub value_15 : (l : List ℕ) (found_budget : ℕ) (ex : List Exchange) → ((t : Track) → Sound t 15 → Traced t l [] ex) → (Owns 15 → Owned found_budget l [] ex) → found_budget ≡ budget_of_first ex
-value_15 = own_is 15 six_15
+pub value_15 : (rules : Rules) (l : List ℕ) (found_budget : ℕ) (ex : List Exchange) → ((t : Track) → Sound rules t 15 → Traced t l [] ex) → (Owns rules 15 → Owned found_budget l [] ex) → found_budget ≡ budget_of_first ex
+value_15 rules = own_is rules 15 (six_15 rules)
 
-fields_1 : (l : List ℕ) (found_budget : ℕ) (ex : List Exchange) → ((t : Track) → Sound t 1 → Traced t l [] ex) → (Owns 1 → Owned found_budget l [] ex) → (a : ℕ) → brought_up a l found_budget ≡ up_by a ex
+fields_1 : (rules : Rules) (l : List ℕ) (found_budget : ℕ) (ex : List Exchange) → ((t : Track) → Sound rules t 1 → Traced t l [] ex) → (Owns rules 1 → Owned found_budget l [] ex) → (a : ℕ) → brought_up a l found_budget ≡ up_by a ex
 unfolding program_of programs tuning IsLe
-fields_1 l found_budget ex tr ow a =
+fields_1 rules l found_budget ex tr ow a =
     let q91 : byte 1 l ≡ _ = (tr (reads 0x91 1 1) refl).bytes 0 (le_by_compare _ _ tt) in
-    let qb : found_budget ≡ budget_of_first ex = own_is 1 six_1 l found_budget ex tr ow in
+    let qb : found_budget ≡ budget_of_first ex = own_is rules 1 (six_1 rules) l found_budget ex tr ow in
     λ i. record { up = true; address = a; stop = q91 i; budget = qb i }
 
 -- an address that 13 lets pass is one byte
-cut_1 : (code a b : ℕ) → arguments_ok code a b ≡ true → code ≡ 1 → a % 256 ≡ a
+cut_1 : (rules : Rules) (code a b : ℕ) → arguments_ok rules code a b ≡ true → code ≡ 1 → a % 256 ≡ a
 unfolding program_of programs IsLe
-cut_1 code a b h e = address_fits 1 a b (le_by_compare _ _ tt) (rw e at h)
+cut_1 rules code a b h e = address_fits rules 1 a b (le_by_compare _ _ tt) (rw e at h)
 
-cut_3 : (code a b : ℕ) → arguments_ok code a b ≡ true → code ≡ 3 → a % 256 ≡ a
+cut_3 : (rules : Rules) (code a b : ℕ) → arguments_ok rules code a b ≡ true → code ≡ 3 → a % 256 ≡ a
 unfolding program_of programs IsLe
-cut_3 code a b h e = address_fits 3 a b (le_by_compare _ _ tt) (rw e at h)
+cut_3 rules code a b h e = address_fits rules 3 a b (le_by_compare _ _ tt) (rw e at h)
 
-pub fields_shown : (code a b : ℕ) → arguments_ok code a b ≡ true → (l : List ℕ) (found_budget : ℕ) (ex : List Exchange) (d d' : Driver)
-    → ((t : Track) → Sound t code → Traced t l [] ex) → (Owns code → Owned found_budget l [] ex) → d' ≡ after_begun code d → leaves code a l found_budget d' ≡ after_done code a ex d
-fields_shown code a b fit l found_budget ex d d' tr ow h = go (eqb code 1) refl
+pub fields_shown : (rules : Rules) (code a b : ℕ) → arguments_ok rules code a b ≡ true → (l : List ℕ) (found_budget : ℕ) (ex : List Exchange) (d d' : Driver)
+    → ((t : Track) → Sound rules t code → Traced t l [] ex) → (Owns rules code → Owned found_budget l [] ex) → d' ≡ after_begun code d → leaves code a l found_budget d' ≡ after_done code a ex d
+fields_shown rules code a b fit l found_budget ex d d' tr ow h = go (eqb code 1) refl
   where
     moved : (t : Bool) → eqb code 3 ≡ t → (x y : Driver) → x ≡ y
         → cond t (with_driver_address x (a % 256)) (cond (eqb code 9) (with_driver_budget x a) x)
         ≡ cond t (with_driver_address y a) (cond (eqb code 9) (with_driver_budget y a) y)
-    moved true e x y q = rw (q, cut_3 code a b fit (eqb-true code 3 e)) refl
+    moved true e x y q = rw (q, cut_3 rules code a b fit (eqb-true code 3 e)) refl
     moved false e x y q = rw q refl
 
     go : (t : Bool) → eqb code 1 ≡ t → leaves code a l found_budget d' ≡ after_done code a ex d
     go true e =
         let p : code ≡ 1 = eqb-true code 1 e in
         rw e
-        (fields_1 l found_budget ex (subst (λ n. (t : Track) → Sound t n → Traced t l [] ex) p tr) (subst (λ n. Owns n → Owned found_budget l [] ex) p ow) (a % 256)
-        ∙ ap (λ n. up_by n ex) (cut_1 code a b fit p))
+        (fields_1 rules l found_budget ex (subst (λ n. (t : Track) → Sound rules t n → Traced t l [] ex) p tr) (subst (λ n. Owns rules n → Owned found_budget l [] ex) p ow) (a % 256)
+        ∙ ap (λ n. up_by n ex) (cut_1 rules code a b fit p))
     go false e = rw e (moved (eqb code 3) refl d' d (rw e at h))

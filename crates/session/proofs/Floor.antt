@@ -8,10 +8,11 @@ use native.Mathlib.Omega.{arith}
 use lib.Dec.{eqb}
 use borrow.Author.Tests.{eqb-true}
 use lib.ListN.{get_or, drop}
+use Rattle.session.specs.declared.Rules.{Rules}
 use Rattle.session.specs.Instructions.{Op}
-use Rattle.session.specs.Calls.{ops_of, tuning, programs, program_of, top_code, arguments_ok}
+use Rattle.session.specs.Calls.{ops_of, tuning, programs, program_of, arguments_ok}
 use Rattle.session.specs.Claim3.{floor_in}
-use Rattle.session.proofs.Table.{below_pass, by_code_lem}
+use Rattle.session.proofs.Table.{last_program, below_pass, by_code_lem}
 use Rattle.session.proofs.Shape.{over_of}
 
 -- the least that is left after an instruction with `over` instructions that a leap leaves out
@@ -30,14 +31,14 @@ abbrev pub least : List Op → ℕ
 least ops = get_or (leasts ops) 0 0
 
 -- the claim's floor is the least that the call's instructions can send
-floor_is_least : (code a b : ℕ) → arguments_ok code a b ≡ true → floor_in code ≡ least (ops_of (program_of code))
+floor_is_least : (rules : Rules) (code a b : ℕ) → arguments_ok rules code a b ≡ true → floor_in code ≡ least (ops_of (program_of rules code))
 unfolding program_of programs floor_in tuning
-floor_is_least code a b e =
-    let test : ℕ → Bool = λ n. eqb (floor_in n) (least (ops_of (program_of n))) in
-    eqb-true _ _ (by_code_lem (λ n. test n ≡ true) (below_pass test 1 top_code refl) code a b e)
+floor_is_least rules code a b e =
+    let test : ℕ → Bool = λ n. eqb (floor_in n) (least (ops_of (program_of rules n))) in
+    eqb-true _ _ (by_code_lem rules (λ n. test n ≡ true) (below_pass test 1 (last_program rules) refl) code a b e)
 
-pub floor_law : (code a b : ℕ) → arguments_ok code a b ≡ true → floor_in code ≤ least (ops_of (program_of code))
-floor_law code a b e = omega (arith, floor_is_least code a b e)
+pub floor_law : (rules : Rules) (code a b : ℕ) → arguments_ok rules code a b ≡ true → floor_in code ≤ least (ops_of (program_of rules code))
+floor_law rules code a b e = omega (arith, floor_is_least rules code a b e)
 
 leasts_drop : (n : ℕ) (ops : List Op) → get_or (leasts ops) n 0 ≡ least (drop n ops)
 leasts_drop zero ops = refl

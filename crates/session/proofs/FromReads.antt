@@ -8,6 +8,7 @@ use lib.ListN.{length, drop}
 use Rattle.spad.specs.Map.{bits_of, byte_of}
 use Rattle.spad.specs.Masks.{each_bit, or_byte}
 use Rattle.timing.specs.Places.{entries_of, less_place}
+use Rattle.session.specs.declared.Rules.{Rules}
 use Rattle.session.specs.Bus.{byte, idle_on}
 use Rattle.session.specs.Instructions.{Context, bytes_from, timing_in}
 use Rattle.session.specs.Machine.{Session, address_of, held_by, context_of}
@@ -36,16 +37,16 @@ its_bytes [] = refl
 its_bytes (x ∷ l) = ap (λ bs. x ∷ bs) (shifted 0 (length l) x l ∙ its_bytes l)
 
 -- instructions of a call from the j-th on, and with each test made once
-abbrev pub from_step : ℕ → ℕ → Context → Script
-from_step code j c = resume (program_of code).final zero (map op_of (drop j (program_of code).steps)) c
+abbrev pub from_step : Rules → ℕ → ℕ → Context → Script
+from_step rules code j c = resume (program_of rules code).final zero (map op_of (drop j (program_of rules code).steps)) c
 
-abbrev once_from : ℕ → ℕ → Context → Script
-once_from code j c = resume (program_of code).final zero (map once_of (drop j (program_of code).steps)) c
+abbrev once_from : Rules → ℕ → ℕ → Context → Script
+once_from rules code j c = resume (program_of rules code).final zero (map once_of (drop j (program_of rules code).steps)) c
 
-made_once : (code j : ℕ) (c : Context) → ordered 0 0 (drop j (program_of code).steps) ≡ true → from_step code j c ≡ once_from code j c
-made_once code j c h = once (program_of code).final (drop j (program_of code).steps) 0 0 c h (none_known (timing_in 0 c.carried))
+made_once : (rules : Rules) (code j : ℕ) (c : Context) → ordered 0 0 (drop j (program_of rules code).steps) ≡ true → from_step rules code j c ≡ once_from rules code j c
+made_once rules code j c h = once (program_of rules code).final (drop j (program_of rules code).steps) 0 0 c h (none_known (timing_in 0 c.carried))
 
-module _ (s : Session) where
+module _ (rules : Rules) (s : Session) where
   -- what the call of a session sees, by its code, with 24 bytes carried
   abbrev pub view : ℕ → Context
   view code =
@@ -65,38 +66,38 @@ module _ (s : Session) where
       let whole : bytes_from 0 24 s.carried ≡ s.carried = ap (λ n. bytes_from 0 n s.carried) (sym h) ∙ its_bytes s.carried in
       rw whole refl
 
-  pub from_15 : from_step 15 0 (view 15) ≡ method number s.driver get_measurement_timing_budget
+  pub from_15 : from_step rules 15 0 (view 15) ≡ method number s.driver get_measurement_timing_budget
   unfolding program_of programs entries_of less_place
-  from_15 = made_once 15 0 (view 15) refl ∙ go
+  from_15 = made_once rules 15 0 (view 15) refl ∙ go
     where
-      go : once_from 15 0 (view 15) ≡ method number s.driver get_measurement_timing_budget
+      go : once_from rules 15 0 (view 15) ≡ method number s.driver get_measurement_timing_budget
       go = rw get_is
 
-  pub from_9 : from_step 9 0 (view 9) ≡ method flag s.driver (set_budget_from_reads s.a)
+  pub from_9 : from_step rules 9 0 (view 9) ≡ method flag s.driver (set_budget_from_reads rules s.a)
   unfolding program_of programs entries_of less_place
-  from_9 = made_once 9 0 (view 9) refl ∙ ap (λ f. method flag s.driver (f s.a)) (sym rest_is)
+  from_9 = made_once rules 9 0 (view 9) refl ∙ ap (λ f. method flag s.driver (f s.a)) (sym (rest_is rules))
 
-  pub from_1 : from_step 1 129 (view 1) ≡ constructed (chip_in s 0) budget_and_calibration
+  pub from_1 : from_step rules 1 129 (view 1) ≡ constructed (chip_in s 0) (budget_and_calibration rules)
   unfolding program_of programs tuning idle_on entries_of less_place or_byte each_bit bits_of byte_of
-  from_1 = made_once 1 129 (view 1) refl ∙ go
+  from_1 = made_once rules 1 129 (view 1) refl ∙ go
     where
-      go : once_from 1 129 (view 1) ≡ constructed (chip_in s 0) budget_and_calibration
-      go = rw (or_is, no_interrupt_is, get_is, set_is)
+      go : once_from rules 1 129 (view 1) ≡ constructed (chip_in s 0) (budget_and_calibration rules)
+      go = rw (or_is, no_interrupt_is, get_is, set_is rules)
 
-  pub again_from_1 : from_step 1 136 (view 1) ≡ constructed (chip_in s s.found_budget) (set_budget_from_reads s.found_budget >> calibration)
+  pub again_from_1 : from_step rules 1 136 (view 1) ≡ constructed (chip_in s s.found_budget) (set_budget_from_reads rules s.found_budget >> calibration)
   unfolding program_of programs tuning idle_on entries_of less_place or_byte each_bit bits_of byte_of
-  again_from_1 = made_once 1 136 (view 1) refl ∙ go ∙ ap (λ f. constructed (chip_in s s.found_budget) (f s.found_budget >> calibration)) (sym rest_is)
+  again_from_1 = made_once rules 1 136 (view 1) refl ∙ go ∙ ap (λ f. constructed (chip_in s s.found_budget) (f s.found_budget >> calibration)) (sym (rest_is rules))
     where
-      go : once_from 1 136 (view 1) ≡ constructed (chip_in s s.found_budget) (six (λ r. tested r s.found_budget) >> calibration)
+      go : once_from rules 1 136 (view 1) ≡ constructed (chip_in s s.found_budget) (six (λ r. tested rules r s.found_budget) >> calibration)
       go = rw (or_is, no_interrupt_is)
 
-  pub steps_from_1 : from_step 1 135 (view 1) ≡ constructed (chip_in s s.found_budget) (write_byte 0x01 0xE8 >> (set_measurement_timing_budget s.found_budget >> calibration))
+  pub steps_from_1 : from_step rules 1 135 (view 1) ≡ constructed (chip_in s s.found_budget) (write_byte 0x01 0xE8 >> (set_measurement_timing_budget rules s.found_budget >> calibration))
   unfolding program_of programs tuning idle_on entries_of less_place or_byte each_bit bits_of byte_of
-  steps_from_1 = made_once 1 135 (view 1) refl ∙ go
+  steps_from_1 = made_once rules 1 135 (view 1) refl ∙ go
     where
-      go : once_from 1 135 (view 1) ≡ constructed (chip_in s s.found_budget) (write_byte 0x01 0xE8 >> (set_measurement_timing_budget s.found_budget >> calibration))
-      go = rw (or_is, no_interrupt_is, set_is)
+      go : once_from rules 1 135 (view 1) ≡ constructed (chip_in s s.found_budget) (write_byte 0x01 0xE8 >> (set_measurement_timing_budget rules s.found_budget >> calibration))
+      go = rw (or_is, no_interrupt_is, set_is rules)
 
-  pub from_4 : eqb s.a 0 ≡ false → from_step 4 7 (view 4) ≡ method unit s.driver (start_timed s.a >> Ok tt)
+  pub from_4 : eqb s.a 0 ≡ false → from_step rules 4 7 (view 4) ≡ method unit s.driver (start_timed s.a >> Ok tt)
   unfolding program_of programs
   from_4 e = rw (period_is, e)

@@ -1,12 +1,13 @@
 -- The laws of the calls that demand 3 rests on. A new call has to meet these, and nothing else of the proof changes:
 -- its ceiling (`Good.ceiling_law`), the shape of its transfers (`Shape.steady_law`), what follows a range read, and the fields that it leaves.
-use borrow.Author.Rules.{rules}
+use borrow.Author.Rules.{rules as author}
 use mathlib.Core.Path.{◌≡◌, refl}
 use mathlib.Core.Bool.{Bool, true, false, ◌&&◌, cond}
 use mathlib.Core.List.{List, [], ◌∷◌, map}
 use Prim.Native.Nat.{ℕ, zero, suc, ◌%◌}
 use lib.Dec.{eqb}
 use lib.ListN.{drop}
+use Rattle.session.specs.declared.Rules.{Rules}
 use Rattle.session.specs.Bus.{Driver, with_driver_address, with_driver_budget}
 use Rattle.session.specs.Instructions.{Context, Verdict, onward, leap, stop, test, Op, write, read, wait, range, Final, success, failure}
 use Rattle.session.specs.Steps.{slot, op_of}
@@ -32,10 +33,10 @@ RangeLaw fin (range reg len slot over ∷ ops) = Tidies fin (drop over ops) × R
 abbrev RangeOk : ℕ → Program → Type 0
 RangeOk code p = RangeLaw p.final (ops_of p)
 
-pub range_law : (code : ℕ) → RangeLaw (program_of code).final (ops_of (program_of code))
+pub range_law : (rules : Rules) (code : ℕ) → RangeLaw (program_of rules code).final (ops_of (program_of rules code))
 unfolding programs tuning
-range_law =
-    of_table RangeOk (λ k. tt) (search rules)
+range_law rules =
+    of_table rules RangeOk (λ k. tt) (search author)
 
 -- no entry leaps today: what its call leaves out does not count
 abbrev pub no_leap : Verdict → Bool
@@ -44,9 +45,9 @@ no_leap leap = false
 no_leap (stop x) = true
 no_leap (test b v w) = no_leap v && no_leap w
 
-pub entry_law : (code : ℕ) (c : Context) → no_leap ((program_of code).entry c) ≡ true
+pub entry_law : (rules : Rules) (code : ℕ) (c : Context) → no_leap ((program_of rules code).entry c) ≡ true
 unfolding programs
-entry_law code c = of_test (λ k p. no_leap (p.entry c)) (λ k. refl) refl code
+entry_law rules code c = of_test rules (λ k p. no_leap (p.entry c)) (λ k. refl) refl code
 
 pub over_free : (v : Verdict) → no_leap v ≡ true → (p : Program) (over k : ℕ) (s : Session) → decide v p over k s ≡ decide v p 0 k s
 over_free onward h p over k s = refl
@@ -87,7 +88,7 @@ kept_code (suc e) code c f h = tt
 abbrev LeavesOk : ℕ → Program → Type 0
 LeavesOk code p = (c : Context) → FinalOk code c (p.final c)
 
-pub final_law : (code : ℕ) (c : Context) → FinalOk code c ((program_of code).final c)
+pub final_law : (rules : Rules) (code : ℕ) (c : Context) → FinalOk code c ((program_of rules code).final c)
 unfolding programs
-final_law =
-    of_table LeavesOk (λ k c. tt) (search (rules, kept_code))
+final_law rules =
+    of_table rules LeavesOk (λ k c. tt) (search (author, kept_code))

@@ -7,6 +7,7 @@ use native.Mathlib.Omega.{arith}
 use lib.Dec.{eqb}
 use lib.ListN.{length, drop}
 use Rattle.std.specs.List.{drop-map}
+use Rattle.session.specs.declared.Rules.{Rules}
 use Rattle.session.specs.Bus.{transfer_of, wait_register, Driver, Answer, Reply, Condition, absent, zero_from}
 use Rattle.session.specs.Instructions.{Instruction, Context, kept_bytes, Op, write, read, wait, range, Final, success, failure, send_of, read_wins, report_of}
 use Rattle.session.specs.Steps.{op_of}
@@ -37,26 +38,26 @@ reported code = cond (read_wins code) (failure_code ∷ []) []
 abbrev address_part : ℕ → List Part
 address_part code = cond (eqb code 1) (argument_a ∷ []) []
 
-all_ok : (code : ℕ) → walk (step_ok (needed code) (arrival code) (reported code)) 0 (program_of code).steps ≡ true
+all_ok : (rules : Rules) (code : ℕ) → walk (step_ok (needed code) (arrival code) (reported code)) 0 (program_of rules code).steps ≡ true
 unfolding programs tuning needed_rows ends_of
-all_ok = of_test (λ k p. walk (step_ok (needed k) (arrival k) (reported k)) 0 p.steps) (λ k. refl) refl
+all_ok rules = of_test rules (λ k p. walk (step_ok (needed k) (arrival k) (reported k)) 0 p.steps) (λ k. refl) refl
 
 -- what the transfer that is out is made of, and where it goes
 abbrev sent_ok : ℕ → StepTest
 sent_ok code k i is = all_in (address_part code) (needed code k) && (all_in (address_part code) (sent_from code k) && all_in (sends_of i) (sent_from code k))
 
-all_sent : (code : ℕ) → walk (sent_ok code) 0 (program_of code).steps ≡ true
+all_sent : (rules : Rules) (code : ℕ) → walk (sent_ok code) 0 (program_of rules code).steps ≡ true
 unfolding programs tuning sent_rows needed_rows
-all_sent = of_test (λ k p. walk (sent_ok k) 0 p.steps) (λ k. refl) refl
+all_sent rules = of_test rules (λ k p. walk (sent_ok k) 0 p.steps) (λ k. refl) refl
 
 record Sent (code k : ℕ) (i : Instruction) : Type 0 where
   address : all_in (address_part code) (needed code k) ≡ true
   address_out : all_in (address_part code) (sent_from code k) ≡ true
   made_of : all_in (sends_of i) (sent_from code k) ≡ true
 
-sent_at : (code k : ℕ) (i : Instruction) (is : List Instruction) → drop k (program_of code).steps ≡ i ∷ is → Sent code k i
-sent_at code k i is at =
-    let t₁ = both (all_in (address_part code) (needed code k)) _ (walk_at (sent_ok code) (program_of code).steps k i is (all_sent code) at) in
+sent_at : (rules : Rules) (code k : ℕ) (i : Instruction) (is : List Instruction) → drop k (program_of rules code).steps ≡ i ∷ is → Sent code k i
+sent_at rules code k i is at =
+    let t₁ = both (all_in (address_part code) (needed code k)) _ (walk_at (sent_ok code) (program_of rules code).steps k i is (all_sent rules code) at) in
     let t₂ = both (all_in (address_part code) (sent_from code k)) _ t₁.1 in
     record { address = t₁.0; address_out = t₂.0; made_of = t₂.1 }
 
@@ -113,9 +114,9 @@ send_same i c c' m o = go (op_of i) (sends_from i)
 pub kept_room : (op : Op) (r : Reply) (s s' : Session) → length s.carried ≡ length s'.carried → length (kept_bytes op r s.carried) ≡ length (kept_bytes op r s'.carried)
 kept_room op r s s' e = length_kept op r s.carried ∙ e ∙ sym (length_kept op r s'.carried)
 
-module _ (code : ℕ) where
+module _ (rules : Rules) (code : ℕ) where
   abbrev prog : Program
-  prog = program_of code
+  prog = program_of rules code
 
   agree_at : (k i : ℕ) (s s' : Session) → Twin code s s' → On (needed code k) (context_of s) (context_of s') → Agree (sending k i s) (sending k i s')
   agree_at k i s s' t o =
@@ -143,7 +144,7 @@ module _ (code : ℕ) where
   arrives_alike k s s' t o = rw (drop-map op_of k prog.steps) (go (drop k prog.steps) o)
     where
       go : (l : List Instruction) → On (arrival code k l) (context_of s) (context_of s') → Alike (enter prog.final (map op_of l) k s) (enter prog.final (map op_of l) k s')
-      go [] o = rw (← (ends_from code (context_of s) (context_of s') (kin_of code s s' t) o)) (concludes_alike (prog.final (context_of s)) s s' t)
+      go [] o = rw (← (ends_from rules code (context_of s) (context_of s') (kin_of code s s' t) o)) (concludes_alike (prog.final (context_of s)) s s' t)
       go (i ∷ is) o =
           let q = on_append (sends_of i) (needed code k) (context_of s) (context_of s') o in
           rw (← (send_same i (context_of s) (context_of s') (kin_of code s s' t) q.0))
@@ -177,43 +178,43 @@ twins ps s s' g h =
         rw (← g.code, e, a) refl
     speaks false e = rw (← g.code, e, g.driver e) refl
 
-pub depends_on_needed : (s s' : Session) (f : ℕ) (bs : List ℕ) → DependsOnNeeded s s' f bs
-depends_on_needed s s' f bs u u' g =
-    instruction_there s (sound_of s u).1 (λ i is at.
-    let t : Twin s.code s s' = twins (needed s.code s.step) s s' g (sent_at s.code s.step i is at).address in
+pub depends_on_needed : (rules : Rules) (s s' : Session) (f : ℕ) (bs : List ℕ) → DependsOnNeeded rules s s' f bs
+depends_on_needed rules s s' f bs u u' g =
+    instruction_there rules s (sound_of rules s u).1 (λ i is at.
+    let t : Twin s.code s s' = twins (needed s.code s.step) s s' g (sent_at rules s.code s.step i is at).address in
     let o : On (needed s.code s.step) (context_of s) (context_of s') = parts_on (needed s.code s.step) s s' g.parts in
-    replies s.code Alike (Twin s.code) (needed s.code) (arrival s.code) (reported s.code) (all_ok s.code)
-    (λ x y t. t.one) (λ x y t. t.other) (λ x y t. t.room) (twin_kept s.code) (arrives_alike s.code) (again_alike s.code)
-    (λ x y z t. gives_alike s.code x x y z t refl) (λ x y. same_refusal Answer.StrayByte x y) (fails_alike s.code)
+    replies rules s.code Alike (Twin s.code) (needed s.code) (arrival s.code) (reported s.code) (all_ok rules s.code)
+    (λ x y t. t.one) (λ x y t. t.other) (λ x y t. t.room) (twin_kept rules s.code) (arrives_alike rules s.code) (again_alike rules s.code)
+    (λ x y z t. gives_alike rules s.code x x y z t refl) (λ x y. same_refusal Answer.StrayByte x y) (fails_alike rules s.code)
     s.step i is at s s' t o f bs u u' refl (sym g.step) g.idle)
 
-pub sent_from_these : (s s' : Session) → SentFrom s s'
-sent_from_these s s' u u' g =
-    instruction_there s (sound_of s u).1 (λ i is at.
-    let q : Sent s.code s.step i = sent_at s.code s.step i is at in
+pub sent_from_these : (rules : Rules) (s s' : Session) → SentFrom rules s s'
+sent_from_these rules s s' u u' g =
+    instruction_there rules s (sound_of rules s u).1 (λ i is at.
+    let q : Sent s.code s.step i = sent_at rules s.code s.step i is at in
     let t : Twin s.code s s' = twins (sent_from s.code s.step) s s' g q.address_out in
     let o : On (sent_from s.code s.step) (context_of s) (context_of s') = parts_on (sent_from s.code s.step) s s' g.parts in
-    out_at s s.code s.step i is refl refl at
+    out_at rules s s.code s.step i is refl refl at
     ∙ send_same i (context_of s) (context_of s') (kin_of s.code s s' t) (all_same (sends_of i) (sent_from s.code s.step) (context_of s) (context_of s') q.made_of o)
-    ∙ sym (out_at s' s.code s.step i is (sym g.code) (sym g.step) at))
+    ∙ sym (out_at rules s' s.code s.step i is (sym g.code) (sym g.step) at))
 
-pub ignores_read_back : (s : Session) (bs bs' : List ℕ) → IgnoresReadBack s bs bs'
-ignores_read_back s bs bs' u two h h' =
-    instruction_there s (sound_of s u).1 (λ i is at.
-    let out : outstanding s ≡ send_of (op_of i) (context_of s) = out_at s s.code s.step i is refl refl at in
+pub ignores_read_back : (rules : Rules) (s : Session) (bs bs' : List ℕ) → IgnoresReadBack rules s bs bs'
+ignores_read_back rules s bs bs' u two h h' =
+    instruction_there rules s (sound_of rules s u).1 (λ i is at.
+    let out : outstanding rules s ≡ send_of (op_of i) (context_of s) = out_at rules s s.code s.step i is refl refl at in
     go (op_of i) i is at refl (rw out at two) (rw out at h) (rw out at h'))
   where
-    go : (op : Op) (i : Instruction) (is : List Instruction) → drop s.step (program_of s.code).steps ≡ i ∷ is → op_of i ≡ op
+    go : (op : Op) (i : Instruction) (is : List Instruction) → drop s.step (program_of rules s.code).steps ≡ i ∷ is → op_of i ≡ op
         → 2 ≤ (send_of op (context_of s)).count
         → zero_from (send_of op (context_of s)).reads bs ≡ true
         → zero_from (send_of op (context_of s)).reads bs' ≡ true
-        → step_def s (reply 0 bs) ≡ step_def s (reply 0 bs')
+        → step_def rules s (reply 0 bs) ≡ step_def rules s (reply 0 bs')
     go (write reg bytes len over after) i is at z two h h' =
         let n : stray (send_of (op_of i) (context_of s)) 0 bs ≡ false = rw z (stray_is _ 0 bs ∙ ap not h) in
         let n' : stray (send_of (op_of i) (context_of s)) 0 bs' ≡ false = rw z (stray_is _ 0 bs' ∙ ap not h') in
-        met_at s s.code s.step i is 0 bs refl refl u at
+        met_at rules s s.code s.step i is 0 bs refl refl u at
         ∙ rw (n, n', z) refl
-        ∙ sym (met_at s s.code s.step i is 0 bs' refl refl u at)
+        ∙ sym (met_at rules s s.code s.step i is 0 bs' refl refl u at)
     go (read reg len slot finds over after) i is at z two h h' = absurd (omega (arith, two))
     go (wait w) i is at z two h h' = absurd (omega (arith, two))
     go (range reg len slot over) i is at z two h h' = absurd (omega (arith, two))

@@ -17,7 +17,7 @@ use Rattle.budget.specs.Budget.{with_pre}
 use Rattle.ground.proofs.Facts.{clash}
 use Rattle.session.specs.declared.Setting.{Setting}
 use Rattle.session.specs.Instructions.{Instruction, panics, Verdict, onward, stop, test, Op, read, timing_slot, timing_in}
-use Rattle.session.specs.Steps.{dss_of_call9, budget_to_set, no_time, over_last, timing_register, timing_length, timing_place, op_of}
+use Rattle.session.specs.Steps.{budget_to_set, no_time, over_last, timing_register, timing_length, timing_place, op_of}
 
 -- the number of a place (SCOPE 9.4), or 0
 abbrev pub number : Option Place → ℕ
@@ -61,16 +61,16 @@ once_timing n k = read (timing_register n) (timing_length n) (k + timing_place n
 abbrev pub once_found : Op
 once_found = read 0x70 1 (timing_slot + 7) true 0 (λ c. by_places (places_at 6 (entries_of (timing_in timing_slot c.carried))) onward)
 
-abbrev pub once_last : ℕ → Setting → Op
-once_last k x =
+abbrev pub once_last : ℕ → Setting → DssTerm → Op
+once_last k x dss =
     read 0x70 1 (k + 7) false (over_last x)
-    (λ c. by_places (places_at 6 (entries_of (timing_in k c.carried))) (word_tests dss_of_call9 (no_time x) (timing_in k c.carried) (budget_to_set x c)))
+    (λ c. by_places (places_at 6 (entries_of (timing_in k c.carried))) (word_tests dss (no_time x) (timing_in k c.carried) (budget_to_set x c)))
 
 -- a budget read that makes tests again, or another instruction
 pub data Kind : Instruction → Type 0 where
   timing : (n k : ℕ) → Kind (Instruction.ReadTiming n k)
   found : Kind Instruction.FindBudget
-  last : (k : ℕ) (x : Setting) → Kind (Instruction.ReadLast k x)
+  last : (k : ℕ) (x : Setting) (dss : DssTerm) → Kind (Instruction.ReadLast k x dss)
   other : {i : Instruction} → Kind i
 
 abbrev pub kind_of : (i : Instruction) → Kind i
@@ -98,16 +98,16 @@ kind_of Instruction.WritePolarity = other
 kind_of Instruction.ReadStatus = other
 kind_of (Instruction.ReadTiming n k) = timing n k
 kind_of Instruction.FindBudget = found
-kind_of (Instruction.ReadLast k x) = last k x
+kind_of (Instruction.ReadLast k x dss) = last k x dss
 kind_of Instruction.WriteSteps = other
-kind_of (Instruction.WriteWord k x) = other
+kind_of (Instruction.WriteWord k x dss) = other
 kind_of (Instruction.Await x) = other
 kind_of (Instruction.ReadRange reg n k over) = other
 
 abbrev pub once_by : {i : Instruction} → Kind i → Op
 once_by (timing n k) = once_timing n k
 once_by found = once_found
-once_by (last k x) = once_last k x
+once_by (last k x dss) = once_last k x dss
 once_by (other {i}) = op_of i
 
 abbrev pub once_of : Instruction → Op

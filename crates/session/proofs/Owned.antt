@@ -9,6 +9,7 @@ use borrow.Author.Tests.{not-true}
 use Rattle.budget.specs.Budget.{measurement_timing_budget}
 use Rattle.timing.specs.Timeouts.{time_in}
 use Rattle.timing.specs.Registers.{registers_of}
+use Rattle.session.specs.declared.Rules.{Rules}
 use Rattle.session.specs.Bus.{byte, Reply, bad, good, Condition}
 use Rattle.session.specs.Instructions.{Context, Op, write, read, wait, range, timing_slot, bytes_from, put, budget_in, send_of, kept_bytes, kept_budget}
 use Rattle.session.specs.Calls.{ops_of, program_of}
@@ -39,8 +40,8 @@ own_ok found (op ∷ ops) =
     cond found (spares op) (cond (asks_op 0x70 op) (finder op) true)
     && (cond (leaps op) (found || asks_op 0x70 op) true && own_ok (found || asks_op 0x70 op) ops)
 
-abbrev pub Owns : ℕ → Type 0
-Owns code = own_ok false (ops_of (program_of code)) ≡ true
+abbrev pub Owns : Rules → ℕ → Type 0
+Owns rules code = own_ok false (ops_of (program_of rules code)) ≡ true
 
 pub record Owned (found_budget : ℕ) (carried : List ℕ) (ops : List Op) (ex : List Exchange) : Type 0 where
   pub law : own_ok (was_read 0x70 ex) ops ≡ true

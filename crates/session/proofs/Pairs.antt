@@ -9,6 +9,7 @@ use lib.Dec.{eqb, ltb}
 use lib.ListN.{length, get_or, drop}
 use lib.Seq.{drop-drop}
 use Rattle.std.specs.List.{drop-map}
+use Rattle.session.specs.declared.Rules.{Rules}
 use Rattle.session.specs.Bus.{byte, Answer, Reply, bad, good, Condition, wait_limit, idle_on, zero_from, clean_from}
 use Rattle.session.specs.Instructions.{Instruction, Context, stop_answer, Verdict, onward, leap, stop, test, Op, write, read, wait, range, send_of, read_wins, report_of}
 use Rattle.session.specs.Steps.{op_of}
@@ -135,33 +136,33 @@ strays_same op s s' f bs =
     ∙ sym (stray_is (send_of op (context_of s')) f bs)
 
 -- a step of the call, and what stands there
-pub instruction_there : (s : Session) → malformed s ≡ false → {A : Type 0}
-    → ((i : Instruction) (is : List Instruction) → drop s.step (program_of s.code).steps ≡ i ∷ is → A) → A
-instruction_there s m {A} f = go (drop s.step (program_of s.code).steps) refl
+pub instruction_there : (rules : Rules) (s : Session) → malformed rules s ≡ false → {A : Type 0}
+    → ((i : Instruction) (is : List Instruction) → drop s.step (program_of rules s.code).steps ≡ i ∷ is → A) → A
+instruction_there rules s m {A} f = go (drop s.step (program_of rules s.code).steps) refl
   where
-    go : (l : List Instruction) → drop s.step (program_of s.code).steps ≡ l → A
+    go : (l : List Instruction) → drop s.step (program_of rules s.code).steps ≡ l → A
     go [] e =
-        let h : idle_wrong s.code (map op_of []) s.idle ≡ false = rw e at (rw (drop-map op_of s.step (program_of s.code).steps) at (sound_step s m)) in
+        let h : idle_wrong s.code (map op_of []) s.idle ≡ false = rw e at (rw (drop-map op_of s.step (program_of rules s.code).steps) at (sound_step rules s m)) in
         untrue (sym h)
     go (i ∷ is) e = f i is e
 
 -- a reply to the call of the code, at its step k
-pub met_at : (s : Session) (code k : ℕ) (i : Instruction) (is : List Instruction) (f : ℕ) (bs : List ℕ) → s.code ≡ code → s.step ≡ k → Underway s
-    → drop k (program_of code).steps ≡ i ∷ is
-    → step_def s (reply f bs) ≡ cond (stray (send_of (op_of i) (context_of s)) f bs) (refused Answer.StrayByte s) (react (op_of i) (program_of code) s (to_reply f bs))
+pub met_at : (rules : Rules) (s : Session) (code k : ℕ) (i : Instruction) (is : List Instruction) (f : ℕ) (bs : List ℕ) → s.code ≡ code → s.step ≡ k → Underway rules s
+    → drop k (program_of rules code).steps ≡ i ∷ is
+    → step_def rules s (reply f bs) ≡ cond (stray (send_of (op_of i) (context_of s)) f bs) (refused Answer.StrayByte s) (react (op_of i) (program_of rules code) s (to_reply f bs))
 unfolding reply_def step_def
-met_at s code k i is f bs e e' u at =
-    let m = sound_of s u in
-    let here : drop s.step (program_of s.code).steps ≡ i ∷ is = rw (e, e') at in
-    let d : drop s.step (ops_of (program_of s.code)) ≡ op_of i ∷ map op_of is = drop-map op_of s.step (program_of s.code).steps ∙ ap (map op_of) here in
-    rw (m.0, m.1, d) (ap (λ n. cond (stray (send_of (op_of i) (context_of s)) f bs) (refused Answer.StrayByte s) (react (op_of i) (program_of n) s (to_reply f bs))) e)
+met_at rules s code k i is f bs e e' u at =
+    let m = sound_of rules s u in
+    let here : drop s.step (program_of rules s.code).steps ≡ i ∷ is = rw (e, e') at in
+    let d : drop s.step (ops_of (program_of rules s.code)) ≡ op_of i ∷ map op_of is = drop-map op_of s.step (program_of rules s.code).steps ∙ ap (map op_of) here in
+    rw (m.0, m.1, d) (ap (λ n. cond (stray (send_of (op_of i) (context_of s)) f bs) (refused Answer.StrayByte s) (react (op_of i) (program_of rules n) s (to_reply f bs))) e)
 
 -- the transfer that a call has out at its step k
-pub out_at : (s : Session) (code k : ℕ) (i : Instruction) (is : List Instruction) → s.code ≡ code → s.step ≡ k → drop k (program_of code).steps ≡ i ∷ is
-    → outstanding s ≡ send_of (op_of i) (context_of s)
-out_at s code k i is e e' at =
-    let here : drop s.step (program_of s.code).steps ≡ i ∷ is = rw (e, e') at in
-    rw (drop-map op_of s.step (program_of s.code).steps ∙ ap (map op_of) here) refl
+pub out_at : (rules : Rules) (s : Session) (code k : ℕ) (i : Instruction) (is : List Instruction) → s.code ≡ code → s.step ≡ k → drop k (program_of rules code).steps ≡ i ∷ is
+    → outstanding rules s ≡ send_of (op_of i) (context_of s)
+out_at rules s code k i is e e' at =
+    let here : drop s.step (program_of rules s.code).steps ≡ i ∷ is = rw (e, e') at in
+    rw (drop-map op_of s.step (program_of rules s.code).steps ∙ ap (map op_of) here) refl
 
 -- what a failed write looks at
 abbrev pub reports : Op → List Part → List Part
@@ -200,14 +201,14 @@ fits_of known arrival failed k i is h =
     record { reported = t₁.0; made_of = t₂.0; decided = t₃.0; next = t₄.0; leapt = t₄.1 }
 
 -- two sessions at one place of a call, and a relation of their outcomes: it holds after a reply if it holds at each arrival and each end
-module _ (code : ℕ) (R : Outcome → Outcome → Type 0) (Pair : Session → Session → Type 0)
+module _ (rules : Rules) (code : ℕ) (R : Outcome → Outcome → Type 0) (Pair : Session → Session → Type 0)
     (known : ℕ → List Part) (arrival : ℕ → List Instruction → List Part) (failed : List Part)
-    (tested : walk (step_ok known arrival failed) 0 (program_of code).steps ≡ true)
+    (tested : walk (step_ok known arrival failed) 0 (program_of rules code).steps ≡ true)
     (one : (s s' : Session) → Pair s s' → s.code ≡ code) (other : (s s' : Session) → Pair s s' → s'.code ≡ code)
     (room : (s s' : Session) → Pair s s' → length s.carried ≡ length s'.carried)
     (kept : (s s' : Session) (op : Op) (r : Reply) → Pair s s' → Pair (kept_of s op r) (kept_of s' op r))
-    (arrives : (k : ℕ) (s s' : Session) → Pair s s' → On (arrival k (drop k (program_of code).steps)) (context_of s) (context_of s')
-    → R (arrive (program_of code) k s) (arrive (program_of code) k s'))
+    (arrives : (k : ℕ) (s s' : Session) → Pair s s' → On (arrival k (drop k (program_of rules code).steps)) (context_of s) (context_of s')
+    → R (arrive (program_of rules code) k s) (arrive (program_of rules code) k s'))
     (again : (k i : ℕ) (w : Condition) (s s' : Session) → Pair s s' → On (known k) (context_of s) (context_of s')
     → R (sent (send_of (wait w) (context_of s)) (sending k i s)) (sent (send_of (wait w) (context_of s')) (sending k i s')))
     (gives : (x : Answer) (s s' : Session) → Pair s s' → R (giving x s) (giving x s'))
@@ -215,7 +216,7 @@ module _ (code : ℕ) (R : Outcome → Outcome → Type 0) (Pair : Session → S
     (fails : (e : ℕ) (s s' : Session) → Pair s s' → On failed (context_of s) (context_of s')
     → R (giving (Answer.BusError (report_of (read_wins s.code) s.failed (suc e))) s) (giving (Answer.BusError (report_of (read_wins s'.code) s'.failed (suc e))) s')) where
   abbrev prog : Program
-  prog = program_of code
+  prog = program_of rules code
 
   decides : (v : Verdict) (over k : ℕ) (s s' : Session) → Pair s s'
       → On (arrival k (drop k prog.steps)) (context_of s) (context_of s')
@@ -321,9 +322,9 @@ module _ (code : ℕ) (R : Outcome → Outcome → Type 0) (Pair : Session → S
             (arrives (suc k) (kept_of s op' (good bs)) (kept_of s' op' (good bs)) (kept s s' op' (good bs) t) (rw z at (next_on (good bs) (rw z tt))))
 
     -- the reply's record meets both sessions
-    pub replies : (f : ℕ) (bs : List ℕ) → Underway s → Underway s' → s.step ≡ k → s'.step ≡ k → s.idle ≡ s'.idle → R (step_def s (reply f bs)) (step_def s' (reply f bs))
+    pub replies : (f : ℕ) (bs : List ℕ) → Underway rules s → Underway rules s' → s.step ≡ k → s'.step ≡ k → s.idle ≡ s'.idle → R (step_def rules s (reply f bs)) (step_def rules s' (reply f bs))
     replies f bs u u' e e' q =
-        rw (met_at s code k i is f bs (one s s' t) e u at, met_at s' code k i is f bs (other s s' t) e' u' at, ← (strays_same (op_of i) s s' f bs))
+        rw (met_at rules s code k i is f bs (one s s' t) e u at, met_at rules s' code k i is f bs (other s s' t) e' u' at, ← (strays_same (op_of i) s s' f bs))
         (go (stray (send_of (op_of i) (context_of s)) f bs) (reacts (to_reply f bs) e e' q))
       where
         go : {o o' : Outcome} (b : Bool) → R o o' → R (cond b (refused Answer.StrayByte s) o) (cond b (refused Answer.StrayByte s') o')

@@ -3,12 +3,13 @@ use mathlib.Core.Path.{◌≡◌, refl, sym, ap, subst, ◌∙◌}
 use mathlib.Core.Logic.{◌↔◌}
 use mathlib.Core.Bool.{Bool, true, false, not, ◌||◌, ◌&&◌, cond}
 use mathlib.Core.List.{List, [], ◌∷◌, ◌++◌}
-use Prim.Native.Nat.{ℕ, zero, suc, ◌+◌, ◌<◌, ◌≤◌}
+use Prim.Native.Nat.{ℕ, zero, suc, ◌+◌, ◌*◌, ◌<◌, ◌≤◌}
 use native.Mathlib.Omega.{arith}
 use native.Mathlib.Nat.{add-zero, zero-add, add-suc, suc-add}
 use lib.Dec.{eqb, ltb, leb}
 use lib.ListN.{length, drop}
 use borrow.Author.Tests.{ne_eqb, eqb-true, eqb-false, not-true, le-leb, lt-leb}
+use Rattle.session.specs.declared.Rules.{Rules}
 use Rattle.session.specs.Bus.{Answer, wait_limit, zero_from, clean_from}
 use Rattle.session.specs.Instructions.{Op, write, read, wait, range, send_of}
 use Rattle.session.specs.Steps.{slot}
@@ -16,14 +17,14 @@ use Rattle.session.specs.Calls.{ops_of, tuning, programs, program_of, top_code, 
 use Rattle.session.specs.Machine.{Session, Outcome, sent, answered, refused, broken, context_of, decide, react, to_reply, stray, on_ops, idle_wrong, up_wrong, malformed, waits_now, ill_formed, reply_def, begun, not_up, begin_def, other_def}
 use Rattle.session.specs.Records.{Record, call, reply, other}
 use Rattle.session.specs.History.{step_def}
-use Rattle.session.specs.Refusals.{Row, call_rows, in_range, row_of, limit_at, length_at, busy, idle_bad, of_session, for_record, refusals, first_match, Underway}
+use Rattle.session.specs.Refusals.{Row, call_rows, rows_under, times_under, in_range, row_of, limit_at, length_at, busy, idle_bad, of_session, for_record, refusals, first_match, Underway}
 use Rattle.session.specs.Claim1.{Single, one_refusal, refusal_number, Refused12, Accepts}
 use Rattle.ground.proofs.Facts.{both, untrue, not_of_false}
 use Rattle.session.proofs.Good.{limit_positive}
 use Rattle.session.proofs.Cut.{stray_is}
 use Rattle.session.proofs.Accepts.{decide_accepts, react_accepts}
 use Rattle.session.proofs.Strays.{sound_step, refused_where}
-use Rattle.session.proofs.Table.{all_below, below_pass, by_code_lem}
+use Rattle.session.proofs.Table.{all_below, below_pass, by_rules_lem}
 use Rattle.session.proofs.AcceptedIff.{range_is}
 use Rattle.session.proofs.Single.{single}
 
@@ -49,15 +50,16 @@ fits code r k [] = eqb k r.steps
 fits code r k (op ∷ ops) = same_at code r k op && fits code r (suc k) ops
 
 -- the row of a call is that of its program
-abbrev agrees : ℕ → Bool
-agrees code = eqb (ceiling_of code) (row_of code call_rows).ceiling && fits code (row_of code call_rows) 0 (ops_of (program_of code))
+abbrev agrees : Rules → ℕ → Bool
+agrees rules code = eqb (ceiling_of rules code) (times_under rules * (row_of code (rows_under rules)).ceiling) && fits code (row_of code (rows_under rules)) 0 (ops_of (program_of rules code))
 
-all_agree : all_below agrees 1 top_code ≡ true
-unfolding program_of programs tuning ceiling_of call_rows
-all_agree = refl
+all_agree : (rules : Rules) → all_below (agrees rules) 1 (top_code rules) ≡ true
+unfolding program_of programs top_code tuning ceiling_of call_rows
+all_agree Rules.First = refl
+all_agree Rules.Current = refl
 
-agree : (code a b : ℕ) → arguments_ok code a b ≡ true → agrees code ≡ true
-agree = by_code_lem (λ code. agrees code ≡ true) (below_pass agrees 1 top_code all_agree)
+agree : (rules : Rules) (code a b : ℕ) → arguments_ok rules code a b ≡ true → agrees rules code ≡ true
+agree rules = by_rules_lem rules (λ code. agrees rules code ≡ true) (below_pass (agrees rules) 1 (top_code rules) (all_agree rules))
 
 -- what is so at step k, with the instructions from there on
 abbrev At : ℕ → Row → ℕ → List Op → Type 0
@@ -107,47 +109,47 @@ up_is code up = go (eqb code 1) up
     go false true = refl
     go false false = refl
 
-sound_arguments : (s : Session) → malformed s ≡ false → arguments_ok s.code s.a s.b ≡ true
+sound_arguments : (rules : Rules) (s : Session) → malformed rules s ≡ false → arguments_ok rules s.code s.a s.b ≡ true
 unfolding malformed
-sound_arguments s m = go (arguments_ok s.code s.a s.b) refl
+sound_arguments rules s m = go (arguments_ok rules s.code s.a s.b) refl
   where
-    go : (t : Bool) → arguments_ok s.code s.a s.b ≡ t → arguments_ok s.code s.a s.b ≡ true
+    go : (t : Bool) → arguments_ok rules s.code s.a s.b ≡ t → arguments_ok rules s.code s.a s.b ≡ true
     go true e = e
     go false e = untrue (sym (rw e at m))
 
 -- the seven conditions together
-abbrev bad7 : Session → Bool
-bad7 s =
-    (((not (in_range s.code s.a s.b call_rows)
+abbrev bad7 : Rules → Session → Bool
+bad7 rules s =
+    (((not (in_range s.code s.a s.b (rows_under rules))
     || ((eqb s.code 1 && s.driver.up) || (not (eqb s.code 1) && not s.driver.up)))
-    || (leb (row_of s.code call_rows).steps s.step || idle_bad (limit_at (row_of s.code call_rows) s.step) s.idle))
+    || (leb (row_of s.code (rows_under rules)).steps s.step || idle_bad (limit_at (row_of s.code (rows_under rules)) s.step) s.idle))
     || eqb s.transfers 0)
-    || ltb (row_of s.code call_rows).ceiling s.transfers
+    || ltb (times_under rules * (row_of s.code (rows_under rules)).ceiling) s.transfers
 
 or_same : {a b c d : Bool} → a ≡ b → c ≡ d → a || c ≡ b || d
 or_same {a} {b} {c} {d} p q = ap (λ t. t || c) p ∙ ap (λ t. b || t) q
 
 -- what the row of a call says at its step
-at_call : (s : Session) → arguments_ok s.code s.a s.b ≡ true
-    → (ceiling_of s.code ≡ (row_of s.code call_rows).ceiling) × At s.code (row_of s.code call_rows) s.step (drop s.step (ops_of (program_of s.code)))
-at_call s e =
-    let r = row_of s.code call_rows in
-    let q = both (eqb (ceiling_of s.code) r.ceiling) (fits s.code r 0 (ops_of (program_of s.code))) (agree s.code s.a s.b e) in
-    (eqb-true (ceiling_of s.code) r.ceiling q.0, subst (λ n. At s.code r n (drop s.step (ops_of (program_of s.code)))) (zero-add s.step) (at_step s.code r 0 (ops_of (program_of s.code)) q.1 s.step))
+at_call : (rules : Rules) (s : Session) → arguments_ok rules s.code s.a s.b ≡ true
+    → (ceiling_of rules s.code ≡ times_under rules * (row_of s.code (rows_under rules)).ceiling) × At s.code (row_of s.code (rows_under rules)) s.step (drop s.step (ops_of (program_of rules s.code)))
+at_call rules s e =
+    let r = row_of s.code (rows_under rules) in
+    let q = both (eqb (ceiling_of rules s.code) (times_under rules * r.ceiling)) (fits s.code r 0 (ops_of (program_of rules s.code))) (agree rules s.code s.a s.b e) in
+    (eqb-true (ceiling_of rules s.code) (times_under rules * r.ceiling) q.0, subst (λ n. At s.code r n (drop s.step (ops_of (program_of rules s.code)))) (zero-add s.step) (at_step s.code r 0 (ops_of (program_of rules s.code)) q.1 s.step))
 
-malformed_is : (s : Session) → malformed s ≡ bad7 s
+malformed_is : (rules : Rules) (s : Session) → malformed rules s ≡ bad7 rules s
 unfolding malformed
-malformed_is s = go (arguments_ok s.code s.a s.b) refl
+malformed_is rules s = go (arguments_ok rules s.code s.a s.b) refl
   where
-    go : (t : Bool) → arguments_ok s.code s.a s.b ≡ t → malformed s ≡ bad7 s
-    go false e = rw (e, sym (range_is s.code s.a s.b) ∙ e)
+    go : (t : Bool) → arguments_ok rules s.code s.a s.b ≡ t → malformed rules s ≡ bad7 rules s
+    go false e = rw (e, sym (range_is rules s.code s.a s.b) ∙ e)
     go true e =
-        let q = at_call s e in
+        let q = at_call rules s e in
         or_same
         (or_same
         (or_same
-        (or_same (ap not (range_is s.code s.a s.b)) (up_is s.code s.driver.up))
-        (idle_is s.code (row_of s.code call_rows) s.step (drop s.step (ops_of (program_of s.code))) s.idle q.1))
+        (or_same (ap not (range_is rules s.code s.a s.b)) (up_is s.code s.driver.up))
+        (idle_is s.code (row_of s.code (rows_under rules)) s.step (drop s.step (ops_of (program_of rules s.code))) s.idle q.1))
         refl)
         (ap (λ n. ltb n s.transfers) q.0)
 
@@ -164,38 +166,38 @@ seven true false false false false false true c₇ xs = refl
 seven true false false false false false false true xs = refl
 seven true false false false false false false false xs = refl
 
-rows_are : (s : Session) (xs : List (Bool × ℕ)) → first_match (of_session s ++ xs) ≡ cond (ill_formed s) 15 (first_match xs)
-rows_are s xs =
-    seven (busy s) (not (in_range s.code s.a s.b call_rows)) (eqb s.code 1 && s.driver.up) (not (eqb s.code 1) && not s.driver.up)
-    (leb (row_of s.code call_rows).steps s.step) (idle_bad (limit_at (row_of s.code call_rows) s.step) s.idle) (eqb s.transfers 0) (ltb (row_of s.code call_rows).ceiling s.transfers) xs
-    ∙ ap (λ t. cond (busy s && t) 15 (first_match xs)) (sym (malformed_is s))
+rows_are : (rules : Rules) (s : Session) (xs : List (Bool × ℕ)) → first_match (of_session rules s ++ xs) ≡ cond (ill_formed rules s) 15 (first_match xs)
+rows_are rules s xs =
+    seven (busy s) (not (in_range s.code s.a s.b (rows_under rules))) (eqb s.code 1 && s.driver.up) (not (eqb s.code 1) && not s.driver.up)
+    (leb (row_of s.code (rows_under rules)).steps s.step) (idle_bad (limit_at (row_of s.code (rows_under rules)) s.step) s.idle) (eqb s.transfers 0) (ltb (times_under rules * (row_of s.code (rows_under rules)).ceiling) s.transfers) xs
+    ∙ ap (λ t. cond (busy s && t) 15 (first_match xs)) (sym (malformed_is rules s))
 
-table_is : (s : Session) (r : Record) → first_match (refusals s r) ≡ cond (ill_formed s) 15 (first_match (for_record s r))
-table_is s r = rows_are s (for_record s r)
+table_is : (rules : Rules) (s : Session) (r : Record) → first_match (refusals rules s r) ≡ cond (ill_formed rules s) 15 (first_match (for_record rules s r))
+table_is rules s r = rows_are rules s (for_record rules s r)
 
 -- a call that waits in a session that 15 lets pass
-pub sound_of : (s : Session) → Underway s → (waits_now s ≡ true) × (malformed s ≡ false)
-sound_of s u = (u.waiting, go (malformed s) refl)
+pub sound_of : (rules : Rules) (s : Session) → Underway rules s → (waits_now s ≡ true) × (malformed rules s ≡ false)
+sound_of rules s u = (u.waiting, go (malformed rules s) refl)
   where
-    go : (m : Bool) → malformed s ≡ m → malformed s ≡ false
+    go : (m : Bool) → malformed rules s ≡ m → malformed rules s ≡ false
     go false e = e
-    go true e = let z : ◌≡◌ {A = ℕ} 15 0 = sym (rows_are s [] ∙ rw (u.waiting, e)) ∙ u.sound in absurd (omega (arith, z))
+    go true e = let z : ◌≡◌ {A = ℕ} 15 0 = sym (rows_are rules s [] ∙ rw (u.waiting, e)) ∙ u.sound in absurd (omega (arith, z))
 
-underway_of : (s : Session) → waits_now s ≡ true → malformed s ≡ false → Underway s
-underway_of s w m = record { waiting = w; sound = rows_are s [] ∙ rw (w, m) }
+underway_of : (rules : Rules) (s : Session) → waits_now s ≡ true → malformed rules s ≡ false → Underway rules s
+underway_of rules s w m = record { waiting = w; sound = rows_are rules s [] ∙ rw (w, m) }
 
-pub refused_12 : (s : Session) (f : ℕ) (bs : List ℕ) → (step_def s (reply f bs) ≡ refused Answer.StrayByte s) ↔ Refused12 s f bs
-refused_12 s f bs = (there, back)
+pub refused_12 : (rules : Rules) (s : Session) (f : ℕ) (bs : List ℕ) → (step_def rules s (reply f bs) ≡ refused Answer.StrayByte s) ↔ Refused12 rules s f bs
+refused_12 rules s f bs = (there, back)
   where
-    there : step_def s (reply f bs) ≡ refused Answer.StrayByte s → Refused12 s f bs
+    there : step_def rules s (reply f bs) ≡ refused Answer.StrayByte s → Refused12 rules s f bs
     there e =
-        let q = (refused_where s f bs).0 e in
-        record { underway = underway_of s (not_of_false (ne_eqb s.code 0 q.waiting)) q.sound; stray = q.stray }
+        let q = (refused_where rules s f bs).0 e in
+        record { underway = underway_of rules s (not_of_false (ne_eqb s.code 0 q.waiting)) q.sound; stray = q.stray }
 
-    back : Refused12 s f bs → step_def s (reply f bs) ≡ refused Answer.StrayByte s
+    back : Refused12 rules s f bs → step_def rules s (reply f bs) ≡ refused Answer.StrayByte s
     back r =
-        let q = sound_of s r.underway in
-        (refused_where s f bs).1 (record { waiting = eqb-false s.code 0 (not-true (eqb s.code 0) q.0); sound = q.1; stray = r.stray })
+        let q = sound_of rules s r.underway in
+        (refused_where rules s f bs).1 (record { waiting = eqb-false s.code 0 (not-true (eqb s.code 0) q.0); sound = q.1; stray = r.stray })
 
 accepted_0 : (o : Outcome) → Accepts o → refusal_number o ≡ 0
 accepted_0 (sent t s) h = refl
@@ -219,45 +221,45 @@ not_up_is code up = go (eqb code 1)
     go true = refl
     go false = refl
 
-on_ops_lem : (s : Session) (f : ℕ) (bs : List ℕ) → malformed s ≡ false
-    → refusal_number (on_ops (drop s.step (ops_of (program_of s.code))) (program_of s.code) s f bs)
-    ≡ first_match ((not (zero_from (clean_from f (length_at (row_of s.code call_rows) s.step)) bs), 12) ∷ [])
-on_ops_lem s f bs m = go (drop s.step (ops_of (program_of s.code))) (at_call s (sound_arguments s m)).1 (sound_step s m)
+on_ops_lem : (rules : Rules) (s : Session) (f : ℕ) (bs : List ℕ) → malformed rules s ≡ false
+    → refusal_number (on_ops (drop s.step (ops_of (program_of rules s.code))) (program_of rules s.code) s f bs)
+    ≡ first_match ((not (zero_from (clean_from f (length_at (row_of s.code (rows_under rules)) s.step)) bs), 12) ∷ [])
+on_ops_lem rules s f bs m = go (drop s.step (ops_of (program_of rules s.code))) (at_call rules s (sound_arguments rules s m)).1 (sound_step rules s m)
   where
-    go : (l : List Op) → At s.code (row_of s.code call_rows) s.step l → idle_wrong s.code l s.idle ≡ false
-        → refusal_number (on_ops l (program_of s.code) s f bs) ≡ cond (not (zero_from (clean_from f (length_at (row_of s.code call_rows) s.step)) bs)) 12 0
+    go : (l : List Op) → At s.code (row_of s.code (rows_under rules)) s.step l → idle_wrong s.code l s.idle ≡ false
+        → refusal_number (on_ops l (program_of rules s.code) s f bs) ≡ cond (not (zero_from (clean_from f (length_at (row_of s.code (rows_under rules)) s.step)) bs)) 12 0
     go [] e i = untrue (sym i)
     go (op ∷ rest) e i =
-        cond_at refusal_number (stray (send_of op (context_of s)) f bs) (not (zero_from (clean_from f (length_at (row_of s.code call_rows) s.step)) bs))
+        cond_at refusal_number (stray (send_of op (context_of s)) f bs) (not (zero_from (clean_from f (length_at (row_of s.code (rows_under rules)) s.step)) bs))
         (stray_is (send_of op (context_of s)) f bs
         ∙ ap (λ n. not (zero_from (clean_from f n) bs)) (asked op s ∙ e.2))
-        refl (accepted_0 (react op (program_of s.code) s (to_reply f bs)) (react_accepts op (program_of s.code) s (to_reply f bs)))
+        refl (accepted_0 (react op (program_of rules s.code) s (to_reply f bs)) (react_accepts op (program_of rules s.code) s (to_reply f bs)))
 
 -- one record meets one session
-pub refused_by_table : (s : Session) (r : Record) → refusal_number (step_def s r) ≡ first_match (refusals s r)
+pub refused_by_table : (rules : Rules) (s : Session) (r : Record) → refusal_number (step_def rules s r) ≡ first_match (refusals rules s r)
 unfolding step_def begin_def reply_def other_def
-refused_by_table s (call code a b) =
-    cond_at refusal_number (ill_formed s) (ill_formed s) refl refl
-    (cond_at refusal_number (not (arguments_ok code a b)) (not (in_range code a b call_rows)) (ap not (range_is code a b)) refl
+refused_by_table rules s (call code a b) =
+    cond_at refusal_number (ill_formed rules s) (ill_formed rules s) refl refl
+    (cond_at refusal_number (not (arguments_ok rules code a b)) (not (in_range code a b (rows_under rules))) (ap not (range_is rules code a b)) refl
     (cond_at refusal_number (waits_now s) (busy s) refl refl
     (cond_at refusal_number (not_up code s.driver.up) (not (eqb code 1) && not s.driver.up) (not_up_is code s.driver.up) refl
-    (accepted_0 (decide ((program_of code).entry (context_of (begun s code a b))) (program_of code) (length (program_of code).steps) 0 (begun s code a b)) (decide_accepts ((program_of code).entry (context_of (begun s code a b))) (program_of code) (length (program_of code).steps) 0 (begun s code a b))))))
-    ∙ sym (table_is s (call code a b))
-refused_by_table s (reply f bs) = go (waits_now s) (malformed s) refl ∙ sym (table_is s (reply f bs))
+    (accepted_0 (decide ((program_of rules code).entry (context_of (begun s code a b))) (program_of rules code) (length (program_of rules code).steps) 0 (begun s code a b)) (decide_accepts ((program_of rules code).entry (context_of (begun s code a b))) (program_of rules code) (length (program_of rules code).steps) 0 (begun s code a b))))))
+    ∙ sym (table_is rules s (call code a b))
+refused_by_table rules s (reply f bs) = go (waits_now s) (malformed rules s) refl ∙ sym (table_is rules s (reply f bs))
   where
-    go : (w m : Bool) → malformed s ≡ m
-        → refusal_number (cond (w && m) (broken s) (cond (not w) (refused Answer.NoCallWaits s) (on_ops (drop s.step (ops_of (program_of s.code))) (program_of s.code) s f bs)))
-        ≡ cond (w && m) 15 (first_match ((not w, 11) ∷ (not (zero_from (clean_from f (length_at (row_of s.code call_rows) s.step)) bs), 12) ∷ []))
+    go : (w m : Bool) → malformed rules s ≡ m
+        → refusal_number (cond (w && m) (broken s) (cond (not w) (refused Answer.NoCallWaits s) (on_ops (drop s.step (ops_of (program_of rules s.code))) (program_of rules s.code) s f bs)))
+        ≡ cond (w && m) 15 (first_match ((not w, 11) ∷ (not (zero_from (clean_from f (length_at (row_of s.code (rows_under rules)) s.step)) bs), 12) ∷ []))
     go false m h = refl
     go true true h = refl
-    go true false h = on_ops_lem s f bs h
-refused_by_table s other = cond_at refusal_number (ill_formed s) (ill_formed s) refl refl refl ∙ sym (table_is s other)
+    go true false h = on_ops_lem rules s f bs h
+refused_by_table rules s other = cond_at refusal_number (ill_formed rules s) (ill_formed rules s) refl refl refl ∙ sym (table_is rules s other)
 
 -- and accepted exactly where the table has nothing
-pub not_refused : (s : Session) (r : Record) → first_match (refusals s r) ≡ 0 → Accepts (step_def s r)
-not_refused s r e = go (step_def s r) (single s r) (refused_by_table s r ∙ e)
+pub not_refused : (rules : Rules) (s : Session) (r : Record) → first_match (refusals rules s r) ≡ 0 → Accepts (step_def rules s r)
+not_refused rules s r e = go (step_def rules s r) (single rules s r) (refused_by_table rules s r ∙ e)
   where
-    go : (o : Outcome) → Single s o → refusal_number o ≡ 0 → Accepts o
+    go : (o : Outcome) → Single rules s o → refusal_number o ≡ 0 → Accepts o
     go (sent t s') x z = tt
     go (answered y n s') x z = tt
     go (refused y s') (one_refusal x h k) z = absurd (omega (arith, h))

@@ -8,6 +8,7 @@ use borrow.Author.Tests.{eqb-true, ne_eqb}
 use lib.Dec.{eqb, ltb}
 use lib.ListN.{drop}
 use lib.Seq.{sets}
+use Rattle.session.specs.declared.Rules.{Rules}
 use Rattle.session.specs.Bus.{Reply, bad, good, wait_limit, idle_on}
 use Rattle.session.specs.Instructions.{bytes_from, Verdict, onward, leap, stop, test, Op, write, read, wait, range, Final, success, failure, send_of, kept_bytes, kept_failure, kept_budget}
 use Rattle.session.specs.Steps.{op_of}
@@ -103,9 +104,9 @@ kept_ok code k i is =
     && (same_bool (reads_range_at code k) (is_range (op_of i))
     && (not (finder (op_of i)) || gives_budget code k)))
 
-all_ok : (code : ℕ) → walk (kept_ok code) 0 (program_of code).steps ≡ true
+all_ok : (rules : Rules) (code : ℕ) → walk (kept_ok code) 0 (program_of rules code).steps ≡ true
 unfolding programs tuning kept_rows
-all_ok = of_test (λ k p. walk (kept_ok k) 0 p.steps) (λ k. refl) refl
+all_ok rules = of_test rules (λ k p. walk (kept_ok k) 0 p.steps) (λ k. refl) refl
 
 bytes_kept : (op : Op) (l bs : List ℕ) → kept_bytes op (good bs) l ≡ sets l (slot_of op) (bytes_from 0 (count_of op) bs)
 bytes_kept (write reg bytes len over after) l bs = refl
@@ -133,10 +134,10 @@ budget_left (read reg len slot finds over after) (good bs) l x h = rw h refl
 budget_left (wait w) r l x h = refl
 budget_left (range reg len slot over) r l x h = refl
 
-pub keeps_the_rest : (s : Session) (f : ℕ) (bs : List ℕ) → KeepsTheRest s f bs
-keeps_the_rest s f bs u =
-    instruction_there s (sound_of s u).1 (λ i is at.
-    let h = walk_at (kept_ok s.code) (program_of s.code).steps s.step i is (all_ok s.code) at in
+pub keeps_the_rest : (rules : Rules) (s : Session) (f : ℕ) (bs : List ℕ) → KeepsTheRest rules s f bs
+keeps_the_rest rules s f bs u =
+    instruction_there rules s (sound_of rules s u).1 (λ i is at.
+    let h = walk_at (kept_ok s.code) (program_of rules s.code).steps s.step i is (all_ok rules s.code) at in
     let row = row_at s.code s.step kept_rows in
     let t₁ = both (eqb row.0 (slot_of (op_of i))) _ h in
     let t₂ = both (eqb row.1 (count_of (op_of i))) _ t₁.1 in
@@ -145,11 +146,11 @@ keeps_the_rest s f bs u =
     = by_reply (op_of i) f (eqb-true row.0 (slot_of (op_of i)) t₁.0) (eqb-true row.1 (count_of (op_of i)) t₂.0) in
     let failed : kept_failure (op_of i) (to_reply f bs) s.failed ≡ cond (reads_range_at s.code s.step) f s.failed
     = failure_kept (op_of i) f bs s.failed ∙ ap (λ b. cond b f s.failed) (sym (same_bool_lem _ _ t₃.0)) in
-    rw (met_at s s.code s.step i is f bs refl refl u at)
+    rw (met_at rules s s.code s.step i is f bs refl refl u at)
     (cond_case (Keeps s f bs) (stray (send_of (op_of i) (context_of s)) f bs) (λ e. tt)
-    (λ e. ends (op_of i) (react (op_of i) (program_of s.code) s (to_reply f bs)) carried failed
+    (λ e. ends (op_of i) (react (op_of i) (program_of rules s.code) s (to_reply f bs)) carried failed
     (λ off. budget_left (op_of i) (to_reply f bs) s.carried s.found_budget (unfilled (op_of i) s.code s.step off t₃.1))
-    (reacts (op_of i) (program_of s.code) s (to_reply f bs)))))
+    (reacts (op_of i) (program_of rules s.code) s (to_reply f bs)))))
   where
     by_reply : (op : Op) (g : ℕ) → (row_at s.code s.step kept_rows).0 ≡ slot_of op → (row_at s.code s.step kept_rows).1 ≡ count_of op
         → kept_bytes op (to_reply g bs) s.carried ≡ cond (eqb g 0) (kept_at s.code s.step kept_rows s.carried bs) s.carried

@@ -18,9 +18,10 @@ use Rattle.timing.specs.Places.{timeout_place, period_place, less_place, msrc_pl
 use Rattle.budget.specs.declared.NoWord.{NoWord}
 use Rattle.budget.specs.Sums.{used_sum}
 use Rattle.budget.specs.Budget.{word_of_sum, word_within, word_after, final_range_word, set_budget}
+use Rattle.session.specs.declared.Rules.{Rules}
 use Rattle.session.specs.Bus.{Driver, Transfer, Answer, Reply}
 use Rattle.session.specs.Machine.{Session}
-use Rattle.session.specs.Steps.{dss_of_call9}
+use Rattle.session.specs.Rules.{dss_of}
 use Rattle.session.specs.Script.{Script, done, send, Raw, data_of, is_clean, cut, Trace, sends, ends, heard, play}
 use Rattle.session.specs.RustFn.{Fn, ◌>>◌, Ok, panic, if, set_self_budget, write_16bit}
 use Rattle.session.specs.RustBringUp.{method, flag, calls, rust}
@@ -37,24 +38,24 @@ by_word budget (Worth w) = write_16bit 0x71 w >> (set_self_budget budget >> Ok t
 by_word budget (Fails NoWord.NoTime) = Ok false
 by_word budget (Fails (NoWord.Panic p)) = panic (place_number p)
 
-abbrev word : TimingRegisters → ℕ → Result ℕ NoWord
-word r budget = final_range_word r (record { 0 = budget }) dss_of_call9
+abbrev word : Rules → TimingRegisters → ℕ → Result ℕ NoWord
+word rules r budget = final_range_word r (record { 0 = budget }) (dss_of rules)
 
 cond_is : {A : Type 0} (b : Bool) {x y z : A} → (b ≡ true → x ≡ z) → (b ≡ false → y ≡ z) → cond b x y ≡ z
 cond_is true f g = f refl
 cond_is false f g = g refl
 
-tested_is : (r : TimingRegisters) (budget : ℕ) → first_place r 6 ≡ None → tested r budget ≡ by_word budget (word r budget)
+tested_is : (rules : Rules) (r : TimingRegisters) (budget : ℕ) → first_place r 6 ≡ None → tested rules r budget ≡ by_word budget (word rules r budget)
 unfolding final_range_word word_within mclks_of word_of_sum
-tested_is r budget h = fun_ext (λ chip. fun_ext (λ ret.
-    cond_is (ltb budget (used_sum r dss_of_call9).0) (λ e₁. rw (h, e₁) refl)
-    (λ e₁. cond_is (ltb 4294967295 (spare_sum dss_of_call9 r budget)) (λ e₂. rw (h, e₁, e₂) refl)
+tested_is rules r budget h = fun_ext (λ chip. fun_ext (λ ret.
+    cond_is (ltb budget (used_sum r (dss_of rules)).0) (λ e₁. rw (h, e₁) refl)
+    (λ e₁. cond_is (ltb 4294967295 (spare_sum (dss_of rules) r budget)) (λ e₂. rw (h, e₁, e₂) refl)
     (λ e₂. cond_is (eqb (final_macro r) 0) (λ e₃. rw (h, e₁, e₂, e₃) refl)
-    (λ e₃. cond_is (ltb 65535 (total_clocks dss_of_call9 r budget)) (λ e₄. rw (h, e₁, e₂, e₃, e₄) refl)
+    (λ e₃. cond_is (ltb 65535 (total_clocks (dss_of rules) r budget)) (λ e₄. rw (h, e₁, e₂, e₃, e₄) refl)
     (λ e₄. rw (h, e₁, e₂, e₃, e₄) refl))))))
 
-words_are : (budget : ℕ) → six (λ r. tested r budget) ≡ six (λ r. by_word budget (word r budget))
-words_are budget = six_same (λ r. tested r budget) (λ r. by_word budget (word r budget)) (λ r h. tested_is r budget h)
+words_are : (rules : Rules) (budget : ℕ) → six (λ r. tested rules r budget) ≡ six (λ r. by_word budget (word rules r budget))
+words_are rules budget = six_same (λ r. tested rules r budget) (λ r. by_word budget (word rules r budget)) (λ r h. tested_is rules r budget h)
 
 -- ---- a transfer with a clean reply, a place, the end
 read_on : (t : Transfer) (k : Reply → Script) (r : Raw) (rs : List Raw) {x : Trace}
@@ -122,12 +123,12 @@ module _ (d : Driver) (t₁ t₂ t₃ t₄ t₅ t₆ : Transfer) (g : Option Pla
   ordered None None None None None None None None (Some p) = ap (sends_all (t₁ ∷ t₂ ∷ t₃ ∷ t₄ ∷ t₅ ∷ t₆ ∷ [])) (h p)
   ordered None None None None None None None None None = refl
 
-module _ (d : Driver) (budget : ℕ) (bytes : List ℕ) (ignored : ℕ) where
+module _ (rules : Rules) (d : Driver) (budget : ℕ) (bytes : List ℕ) (ignored : ℕ) where
   abbrev regs : TimingRegisters
   regs = registers_of bytes
 
-  after_reads : play (method flag d (six (λ r. by_word budget (word r budget)))) (good_replies bytes ignored)
-      ≡ sends_all (take (made (entries_of regs) 6) (read_transfers d.address)) (by_result d budget (word regs budget))
+  after_reads : play (method flag d (six (λ r. by_word budget (word rules r budget)))) (good_replies bytes ignored)
+      ≡ sends_all (take (made (entries_of regs) 6) (read_transfers d.address)) (by_result d budget (word rules regs budget))
   unfolding entries_of less_place final_range_word first_place
   after_reads =
       read_on _ _ _ _ refl
@@ -141,21 +142,21 @@ module _ (d : Driver) (budget : ℕ) (bytes : List ℕ) (ignored : ℕ) where
       (read_on _ _ _ _ refl
       (placed_on (msrc_place regs.msrctimeout) _ d _
       (read_on _ _ _ _ refl
-      (placed_on (period_place regs.finalperiod) _ d _ (placed_on (result_err (msrc_time regs)) _ d _ (placed_on (result_err (pre_time regs)) _ d _ (placed_on (result_err (final_time regs)) _ d _ (end_on d budget ignored (word regs budget))))))))))))))))
-      ∙ ordered d _ _ _ _ _ _ (λ p. by_result d budget (word_after p regs (record { 0 = budget }) dss_of_call9)) (λ p. refl) _ _ _ _ _ _ _ _ _
+      (placed_on (period_place regs.finalperiod) _ d _ (placed_on (result_err (msrc_time regs)) _ d _ (placed_on (result_err (pre_time regs)) _ d _ (placed_on (result_err (final_time regs)) _ d _ (end_on d budget ignored (word rules regs budget))))))))))))))))
+      ∙ ordered d _ _ _ _ _ _ (λ p. by_result d budget (word_after p regs (record { 0 = budget }) (dss_of rules))) (λ p. refl) _ _ _ _ _ _ _ _ _
 
   -- below 20,000 nothing is sent
   from_the_test : (t : Bool)
-      → play (method flag d (if t (Ok false) (six (λ r. tested r budget)))) (good_replies bytes ignored)
-      ≡ sends_all (take (cond t 0 (made_of regs 6)) (read_transfers d.address)) (by_result d budget (cond t (Fails NoWord.NoTime) (word regs budget)))
+      → play (method flag d (if t (Ok false) (six (λ r. tested rules r budget)))) (good_replies bytes ignored)
+      ≡ sends_all (take (cond t 0 (made_of regs 6)) (read_transfers d.address)) (by_result d budget (cond t (Fails NoWord.NoTime) (word rules regs budget)))
   unfolding play first_place
   from_the_test true = refl
-  from_the_test false = ap (λ m. play (method flag d m) (good_replies bytes ignored)) (words_are budget) ∙ after_reads
+  from_the_test false = ap (λ m. play (method flag d m) (good_replies bytes ignored)) (words_are rules budget) ∙ after_reads
 
-  pub rust_sets_budget : RustSetsBudget d budget bytes ignored
+  pub rust_sets_budget : RustSetsBudget rules d budget bytes ignored
   unfolding rust calls trace_of_call9 set_budget
-  rust_sets_budget = rw set_is (from_the_test (ltb budget 20000))
+  rust_sets_budget = rw (set_is rules) (from_the_test (ltb budget 20000))
 
-pub session_sets_budget : (s : Session) (budget : ℕ) (bytes : List ℕ) (ignored : ℕ) → SessionSetsBudget s budget bytes ignored
-session_sets_budget s budget bytes ignored accepted =
-    demand_2 s 9 budget 0 accepted (good_replies bytes ignored) ∙ rust_sets_budget s.driver budget bytes ignored
+pub session_sets_budget : (rules : Rules) (s : Session) (budget : ℕ) (bytes : List ℕ) (ignored : ℕ) → SessionSetsBudget rules s budget bytes ignored
+session_sets_budget rules s budget bytes ignored accepted =
+    demand_2 rules s 9 budget 0 accepted (good_replies bytes ignored) ∙ rust_sets_budget rules s.driver budget bytes ignored

@@ -5,6 +5,7 @@ use mathlib.Core.List.{List, [], ◌∷◌}
 use Prim.Native.Nat.{ℕ, zero, suc}
 use lib.Dec.{eqb}
 use lib.ListN.{drop}
+use Rattle.session.specs.declared.Rules.{Rules}
 use Rattle.session.specs.Bus.{transfer_of, Condition, wait_register}
 use Rattle.session.specs.Instructions.{Context, Op, write, read, wait, range, send_of}
 use Rattle.session.specs.Steps.{slot}
@@ -122,18 +123,18 @@ abbrev pub steady : ℕ → List Op → Context → Bool
 steady code [] c = true
 steady code (op ∷ ops) c = (tells code op c && (leads code op c ops && lands_ok op ops)) && steady code ops c
 
-pub steady_law : (code : ℕ) (c : Context) → steady code (ops_of (program_of code)) c ≡ true
+pub steady_law : (rules : Rules) (code : ℕ) (c : Context) → steady code (ops_of (program_of rules code)) c ≡ true
 unfolding programs tuning
-steady_law code c = of_test (λ k p. steady k (ops_of p) c) (λ k. refl) refl code
+steady_law rules code c = of_test rules (λ k p. steady k (ops_of p) c) (λ k. refl) refl code
 
 -- a call's first instruction is no detector wait
 abbrev pub first_ok : List Op → Bool
 first_ok [] = true
 first_ok (op ∷ ops) = not (waits_on Condition.DetectorReady op)
 
-pub opens_law : (code : ℕ) → first_ok (ops_of (program_of code)) ≡ true
+pub opens_law : (rules : Rules) (code : ℕ) → first_ok (ops_of (program_of rules code)) ≡ true
 unfolding programs
-opens_law = of_test (λ k p. first_ok (ops_of p)) (λ k. refl) refl
+opens_law rules = of_test rules (λ k p. first_ok (ops_of p)) (λ k. refl) refl
 
 steady_drop : (code k : ℕ) (l : List Op) (c : Context) → steady code l c ≡ true → steady code (drop k l) c ≡ true
 steady_drop code zero l c h = h
@@ -149,9 +150,9 @@ pub record Known (code : ℕ) (op : Op) (rest : List Op) (c : Context) : Type 0 
   pub next : leads code op c rest ≡ true
   pub landing : lands_ok op rest ≡ true
 
-pub known_at : (code k : ℕ) (op : Op) (rest : List Op) → drop k (ops_of (program_of code)) ≡ op ∷ rest → (c : Context) → Known code op rest c
-known_at code k op rest e c =
-    let h : steady code (op ∷ rest) c ≡ true = rw e at (steady_drop code k (ops_of (program_of code)) c (steady_law code c)) in
+pub known_at : (rules : Rules) (code k : ℕ) (op : Op) (rest : List Op) → drop k (ops_of (program_of rules code)) ≡ op ∷ rest → (c : Context) → Known code op rest c
+known_at rules code k op rest e c =
+    let h : steady code (op ∷ rest) c ≡ true = rw e at (steady_drop code k (ops_of (program_of rules code)) c (steady_law rules code c)) in
     let h₁ = (both (tells code op c && (leads code op c rest && lands_ok op rest)) (steady code rest c) h).0 in
     let h₂ = both (tells code op c) (leads code op c rest && lands_ok op rest) h₁ in
     let h₃ = both (leads code op c rest) (lands_ok op rest) h₂.1 in

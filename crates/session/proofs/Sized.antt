@@ -8,6 +8,7 @@ use native.Mathlib.Nat.{le_of_suc-le-suc}
 use borrow.Author.Tests.{leb-true}
 use lib.Dec.{leb}
 use lib.ListN.{length, take, drop}
+use Rattle.session.specs.declared.Rules.{Rules}
 use Rattle.session.specs.Bus.{pad_to, transfer_of, zero_from, wait_register}
 use Rattle.session.specs.Instructions.{Context, Op, write, read, wait, range, send_of}
 use Rattle.session.specs.Steps.{slot}
@@ -26,9 +27,9 @@ abbrev all_sized : List Op → Context → Bool
 all_sized [] c = true
 all_sized (op ∷ ops) c = sized op c && all_sized ops c
 
-sized_law : (code : ℕ) (c : Context) → all_sized (ops_of (program_of code)) c ≡ true
+sized_law : (rules : Rules) (code : ℕ) (c : Context) → all_sized (ops_of (program_of rules code)) c ≡ true
 unfolding programs tuning
-sized_law code c = of_test (λ k p. all_sized (ops_of p) c) (λ k. refl) refl code
+sized_law rules code c = of_test rules (λ k p. all_sized (ops_of p) c) (λ k. refl) refl code
 
 sized_at : (k : ℕ) (l : List Op) (c : Context) {op : Op} {rest : List Op} → all_sized l c ≡ true → drop k l ≡ op ∷ rest → sized op c ≡ true
 sized_at zero [] c h e = clash cc
@@ -66,8 +67,8 @@ sent_to (read reg len slot finds over after) c = refl
 sent_to (wait w) c = refl
 sent_to (range reg len slot over) c = refl
 
-pub on_the_bus : (code k : ℕ) (op : Op) (rest : List Op) (c : Context) → drop k (ops_of (program_of code)) ≡ op ∷ rest → OnTheBus (send_of op c)
-on_the_bus code k op rest c e = go op (sized_at k (ops_of (program_of code)) c (sized_law code c) e)
+pub on_the_bus : (rules : Rules) (code k : ℕ) (op : Op) (rest : List Op) (c : Context) → drop k (ops_of (program_of rules code)) ≡ op ∷ rest → OnTheBus (send_of op c)
+on_the_bus rules code k op rest c e = go op (sized_at k (ops_of (program_of rules code)) c (sized_law rules code c) e)
   where
     go : (o : Op) → sized o c ≡ true → OnTheBus (send_of o c)
     go (write reg bytes len over after) h =

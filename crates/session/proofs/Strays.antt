@@ -9,6 +9,7 @@ use native.Mathlib.Nat.{not-suc-le-zero, le_of_suc-le-suc}
 use lib.Dec.{eqb, ltb}
 use lib.ListN.{drop}
 use borrow.Author.Tests.{eqb-true, eqb-false, ne_eqb, not-true, not-false}
+use Rattle.session.specs.declared.Rules.{Rules}
 use Rattle.session.specs.Records.{reply}
 use Rattle.session.specs.History.{step_def}
 use Rattle.session.specs.Bus.{Transfer, Answer, byte, zero_from}
@@ -55,46 +56,46 @@ is_stray t (suc k) bs (beside_failure e i h) = stray_is t (suc k) bs ∙ go (zer
     go false q = refl
 
 -- a sound session stands at an operation
-pub sound_step : (s : Session) → malformed s ≡ false → idle_wrong s.code (drop s.step (ops_of (program_of s.code))) s.idle ≡ false
+pub sound_step : (rules : Rules) (s : Session) → malformed rules s ≡ false → idle_wrong s.code (drop s.step (ops_of (program_of rules s.code))) s.idle ≡ false
 unfolding malformed
-sound_step s h =
-    let ab : Bool = not (arguments_ok s.code s.a s.b) || up_wrong s.code s.driver.up in
-    let c : Bool = idle_wrong s.code (drop s.step (ops_of (program_of s.code))) s.idle in
+sound_step rules s h =
+    let ab : Bool = not (arguments_ok rules s.code s.a s.b) || up_wrong s.code s.driver.up in
+    let c : Bool = idle_wrong s.code (drop s.step (ops_of (program_of rules s.code))) s.idle in
     let d : Bool = eqb s.transfers 0 in
-    (or_parts ab c (or_parts (ab || c) d (or_parts ((ab || c) || d) (ltb (ceiling_of s.code) s.transfers) h).0).0).1
+    (or_parts ab c (or_parts (ab || c) d (or_parts ((ab || c) || d) (ltb (ceiling_of rules s.code) s.transfers) h).0).0).1
 
 -- by the machine's own test of the session
-pub record Strays (s : Session) (f : ℕ) (bs : List ℕ) : Type 0 where
+pub record Strays (rules : Rules) (s : Session) (f : ℕ) (bs : List ℕ) : Type 0 where
   pub waiting : s.code ≡ 0 → ⊥
-  pub sound : malformed s ≡ false
-  pub stray : Stray (outstanding s).reads f bs
+  pub sound : malformed rules s ≡ false
+  pub stray : Stray (outstanding rules s).reads f bs
 
-pub refused_where : (s : Session) (f : ℕ) (bs : List ℕ) → (step_def s (reply f bs) ≡ refused Answer.StrayByte s) ↔ Strays s f bs
+pub refused_where : (rules : Rules) (s : Session) (f : ℕ) (bs : List ℕ) → (step_def rules s (reply f bs) ≡ refused Answer.StrayByte s) ↔ Strays rules s f bs
 unfolding reply_def step_def
-refused_where s f bs = (there, back)
+refused_where rules s f bs = (there, back)
   where
-    at : (l : List Op) → ((s.code ≡ 0) → ⊥) → malformed s ≡ false → drop s.step (ops_of (program_of s.code)) ≡ l → on_ops l (program_of s.code) s f bs ≡ refused Answer.StrayByte s → Strays s f bs
+    at : (l : List Op) → ((s.code ≡ 0) → ⊥) → malformed rules s ≡ false → drop s.step (ops_of (program_of rules s.code)) ≡ l → on_ops l (program_of rules s.code) s f bs ≡ refused Answer.StrayByte s → Strays rules s f bs
     at [] w m e = λ q. clash cc
     at (op ∷ rest) w m e =
-        cond_case (λ o. o ≡ refused Answer.StrayByte s → Strays s f bs) (stray (send_of op (context_of s)) f bs)
+        cond_case (λ o. o ≡ refused Answer.StrayByte s → Strays rules s f bs) (stray (send_of op (context_of s)) f bs)
         (λ h q. record { waiting = w; sound = m; stray = rw e (strays (send_of op (context_of s)) f bs h) })
-        (λ h q. absurd (subst Accepts q (react_accepts op (program_of s.code) s (to_reply f bs))))
+        (λ h q. absurd (subst Accepts q (react_accepts op (program_of rules s.code) s (to_reply f bs))))
 
-    there : step_def s (reply f bs) ≡ refused Answer.StrayByte s → Strays s f bs
+    there : step_def rules s (reply f bs) ≡ refused Answer.StrayByte s → Strays rules s f bs
     there =
-        cond_case (λ o. o ≡ refused Answer.StrayByte s → Strays s f bs) (ill_formed s)
+        cond_case (λ o. o ≡ refused Answer.StrayByte s → Strays rules s f bs) (ill_formed rules s)
         (λ m q. clash cc)
-        (λ m. cond_case (λ o. o ≡ refused Answer.StrayByte s → Strays s f bs) (not (waits_now s))
+        (λ m. cond_case (λ o. o ≡ refused Answer.StrayByte s → Strays rules s f bs) (not (waits_now s))
         (λ e q. let z : ◌≡◌ {A = ℕ} 11 12 = ap refusal_number q in absurd (omega arith))
         (λ e.
         let w : waits_now s ≡ true = not-false (waits_now s) e in
-        at (drop s.step (ops_of (program_of s.code))) (eqb-false s.code 0 (not-true (eqb s.code 0) w)) (rw w at m) refl))
+        at (drop s.step (ops_of (program_of rules s.code))) (eqb-false s.code 0 (not-true (eqb s.code 0) w)) (rw w at m) refl))
 
-    on : (l : List Op) → idle_wrong s.code l s.idle ≡ false → Stray (first_transfer_out l (context_of s)).reads f bs → on_ops l (program_of s.code) s f bs ≡ refused Answer.StrayByte s
+    on : (l : List Op) → idle_wrong s.code l s.idle ≡ false → Stray (first_transfer_out l (context_of s)).reads f bs → on_ops l (program_of rules s.code) s f bs ≡ refused Answer.StrayByte s
     on [] i x = untrue (sym i)
     on (op ∷ rest) i x = rw (is_stray (send_of op (context_of s)) f bs x)
 
-    back : Strays s f bs → step_def s (reply f bs) ≡ refused Answer.StrayByte s
+    back : Strays rules s f bs → step_def rules s (reply f bs) ≡ refused Answer.StrayByte s
     back r =
         rw (ne_eqb s.code 0 r.waiting, r.sound)
-        (on (drop s.step (ops_of (program_of s.code))) (sound_step s r.sound) r.stray)
+        (on (drop s.step (ops_of (program_of rules s.code))) (sound_step rules s r.sound) r.stray)

@@ -6,6 +6,7 @@ use Prim.Native.Nat.{ℕ}
 use lib.Dec.{eqb}
 use lib.ListN.{drop}
 use borrow.Author.Tests.{not-true}
+use Rattle.session.specs.declared.Rules.{Rules}
 use Rattle.session.specs.Bus.{Reply, Condition}
 use Rattle.session.specs.Instructions.{Context, Op, write, read, wait, range, send_of}
 use Rattle.session.specs.Steps.{slot}
@@ -44,12 +45,12 @@ told_next code prev c₀ r next rest ex f e k = told_by code next rest (by (send
         rw (asks_is 0x83 prev c₀ f, not-true (asks_one 0x83 prev) p.0) (same_bool_lem _ (waits_on Condition.DetectorReady next) p.1)
     go false h = sym (not-true (waits_on Condition.DetectorReady next) h)
 
-pub told_write : (code k : ℕ) (ex : List Exchange) → is_write (drop k (ops_of (program_of code))) ≡ true → Told code (drop k (ops_of (program_of code))) ex
-told_write code k ex h = go (drop k (ops_of (program_of code))) refl h
+pub told_write : (rules : Rules) (code k : ℕ) (ex : List Exchange) → is_write (drop k (ops_of (program_of rules code))) ≡ true → Told code (drop k (ops_of (program_of rules code))) ex
+told_write rules code k ex h = go (drop k (ops_of (program_of rules code))) refl h
   where
-    go : (l : List Op) → drop k (ops_of (program_of code)) ≡ l → is_write l ≡ true → Told code l ex
+    go : (l : List Op) → drop k (ops_of (program_of rules code)) ≡ l → is_write l ≡ true → Told code l ex
     go [] e w = tt
-    go (write reg bytes len over after ∷ rest) e w = told_by code (write reg bytes len over after) rest ex (known_at code k _ rest e) (λ c. refl)
+    go (write reg bytes len over after ∷ rest) e w = told_by code (write reg bytes len over after) rest ex (known_at rules code k _ rest e) (λ c. refl)
     go (read reg len slot finds over after ∷ rest) e w = clash cc
     go (wait x ∷ rest) e w = clash cc
     go (range reg len slot over ∷ rest) e w = clash cc

@@ -8,6 +8,7 @@ use native.Mathlib.Omega.{arith}
 use lib.Dec.{eqb, leb}
 use lib.ListN.{length, drop}
 use borrow.Author.Tests.{leb-true, eqb-true}
+use Rattle.session.specs.declared.Rules.{Rules}
 use Rattle.session.specs.Bus.{byte, Reply, bad, good, data_in, Condition}
 use Rattle.session.specs.Instructions.{Context, Op, write, read, wait, range, bytes_from, put, send_of, kept_bytes}
 use Rattle.session.specs.Steps.{slot}
@@ -47,8 +48,8 @@ trace_ok t found (op ∷ ops) =
     cond found (misses t op) (cond (asks_op t.reg op) (fills t op) (misses t op))
     && (cond (leaps op) (found || asks_op t.reg op) true && trace_ok t (found || asks_op t.reg op) ops)
 
-abbrev pub Sound : Track → ℕ → Type 0
-Sound t code = trace_ok t false (ops_of (program_of code)) ≡ true
+abbrev pub Sound : Rules → Track → ℕ → Type 0
+Sound rules t code = trace_ok t false (ops_of (program_of rules code)) ≡ true
 
 pub record Traced (t : Track) (carried : List ℕ) (ops : List Op) (ex : List Exchange) : Type 0 where
   pub law : trace_ok t (was_read t.reg ex) ops ≡ true

@@ -1,5 +1,5 @@
 -- What each instruction looks at of what a call carries: in the bytes that it sends, and in what a good reply decides.
-use borrow.Author.Rules.{rules}
+use borrow.Author.Rules.{rules as author}
 use mathlib.Core.Path.{◌≡◌, refl, sym, ap, ◌∙◌}
 use mathlib.Core.Bool.{Bool, true, false, cond}
 use mathlib.Core.List.{List, [], ◌∷◌}
@@ -10,11 +10,13 @@ use lib.ListN.{length, get_or}
 use borrow.Author.Tests.{leb-true}
 use Rattle.timing.specs.Registers.{registers_of}
 use Rattle.timing.specs.Places.{first_place}
+use Rattle.budget.specs.declared.DssTerm.{DssTerm}
 use Rattle.budget.specs.Budget.{final_range_word}
+use Rattle.session.specs.declared.Rules.{Rules}
 use Rattle.session.specs.declared.Setting.{Setting}
 use Rattle.session.specs.Bus.{byte}
 use Rattle.session.specs.Instructions.{Instruction, Context, Op, write, read, wait, range, timing_slot, bytes_from, timing_in}
-use Rattle.session.specs.Steps.{by_place, by_word, dss_of_call9, budget_to_set, word_to_set, no_time, timing_place, op_of}
+use Rattle.session.specs.Steps.{by_place, by_word, budget_to_set, word_to_set, no_time, timing_place, op_of}
 use Rattle.session.specs.Calls.{Program, range_result, programs, program_of}
 use Rattle.session.specs.Parts.{Part, byte_in, range_byte_in, failure_code, budget_found, argument_a, argument_b, bytes_in}
 use Rattle.session.proofs.Table.{of_table}
@@ -55,10 +57,10 @@ budget_same Setting.Asked c c' h = h
 abbrev pub word_parts : ℕ → Setting → List Part
 word_parts k x = budget_part x ∷ bytes_in k 8
 
-pub word_same : (k : ℕ) (x : Setting) (c c' : Context) → On (word_parts k x) c c' → word_to_set k x c ≡ word_to_set k x c'
-word_same k x c c' h =
-    ap (λ bs. final_range_word (registers_of bs) (record { 0 = budget_to_set x c }) dss_of_call9) (bytes_same k 8 c c' h.1)
-    ∙ ap (λ b. final_range_word (timing_in k c'.carried) (record { 0 = b }) dss_of_call9) (budget_same x c c' h.0)
+pub word_same : (k : ℕ) (x : Setting) (dss : DssTerm) (c c' : Context) → On (word_parts k x) c c' → word_to_set k x dss c ≡ word_to_set k x dss c'
+word_same k x dss c c' h =
+    ap (λ bs. final_range_word (registers_of bs) (record { 0 = budget_to_set x c }) dss) (bytes_same k 8 c c' h.1)
+    ∙ ap (λ b. final_range_word (timing_in k c'.carried) (record { 0 = b }) dss) (budget_same x c c' h.0)
 
 -- the bytes of the first n budget replies
 abbrev pub reply_bytes : ℕ → ℕ
@@ -117,9 +119,9 @@ uses_of Instruction.WritePolarity = record { sends = argument_b ∷ bytes_in 2 1
 uses_of Instruction.ReadStatus = record { sends = []; sent = tt; decides = bytes_in 2 1; decided = λ c c' h. rw h.0 refl }
 uses_of (Instruction.ReadTiming n k) = record { sends = []; sent = tt; decides = bytes_in k (reply_bytes n); decided = λ c c' h. ap by_place (places_same n k c c' h) }
 uses_of Instruction.FindBudget = record { sends = []; sent = tt; decides = bytes_in timing_slot (reply_bytes 6); decided = λ c c' h. ap by_place (places_same 6 timing_slot c c' h) }
-uses_of (Instruction.ReadLast k x) = record { sends = []; sent = tt; decides = word_parts k x; decided = λ c c' h. ap (by_word (no_time x)) (word_same k x c c' h) }
+uses_of (Instruction.ReadLast k x dss) = record { sends = []; sent = tt; decides = word_parts k x; decided = λ c c' h. ap (by_word (no_time x)) (word_same k x dss c c' h) }
 uses_of Instruction.WriteSteps = record { sends = []; sent = λ c c' m h. refl; decides = budget_found ∷ []; decided = λ c c' h. rw h.0 refl }
-uses_of (Instruction.WriteWord k x) = record { sends = word_parts k x; sent = λ c c' m h. rw (word_same k x c c' h) refl; decides = []; decided = λ c c' h. refl }
+uses_of (Instruction.WriteWord k x dss) = record { sends = word_parts k x; sent = λ c c' m h. rw (word_same k x dss c c' h) refl; decides = []; decided = λ c c' h. refl }
 uses_of (Instruction.Await x) = record { sends = []; sent = tt; decides = []; decided = tt }
 uses_of (Instruction.ReadRange reg n k over) = record { sends = []; sent = tt; decides = []; decided = tt }
 
@@ -165,7 +167,7 @@ range_ends c c' m h = go c.failed c'.failed refl refl h
     go (suc e) zero f f' h = absurd (omega (arith, sym f ∙ h.0 ∙ f'))
     go (suc e) (suc e') f f' h = rw (h.0, f') refl
 
-pub ends_from : (code : ℕ) (c c' : Context) → Kin c c' → On (end_of code) c c' → (program_of code).final c ≡ (program_of code).final c'
+pub ends_from : (rules : Rules) (code : ℕ) (c c' : Context) → Kin c c' → On (end_of code) c c' → (program_of rules code).final c ≡ (program_of rules code).final c'
 unfolding programs ends_of
-ends_from =
-    of_table EndsFrom (λ k c c' m h. refl) (search (rules, range_ends))
+ends_from rules =
+    of_table rules EndsFrom (λ k c c' m h. refl) (search (author, range_ends))

@@ -2,6 +2,7 @@
 -- waits goes on in what is left of its script. SCOPE 2.2: arithmetic on the bytes that a session carries gives the first place in the Rust's order
 -- there too.
 use Rattle.std.specs.Prelude.{◌≡◌, true, false, cond, eqb, get_or, List, [], ◌∷◌, ◌++◌, ℕ, zero, suc, ◌+◌, ◌-◌, ◌*◌, ◌/◌, ◌%◌, ◌≤◌, length, take, drop}
+use Rattle.session.specs.declared.Rules.{Rules}
 use Rattle.session.specs.Bus.{byte, absent, transfer_of, with_driver_address, with_driver_budget, Driver, Transfer, Answer, Reply, bad, good, wait_limit, idle_on, zero_from, clean_from, number_of}
 use Rattle.session.specs.Instructions.{Context, bytes_from, stop_answer, Verdict, onward, leap, stop, test, Op, write, read, wait, range, Final, success, failure, send_of, kept_bytes, kept_failure, kept_budget, read_wins, report_of}
 use Rattle.session.specs.Calls.{ops_of, program_of}
@@ -75,8 +76,8 @@ left_of fin i [] c = concluded (fin c) c.driver
 left_of fin i (op ∷ rest) c = resume_in fin i op rest c
 
 -- what is left of the call that a session waits in
-abbrev pub left : Session → Script
-left s = left_of (program_of s.code).final s.idle (drop s.step (ops_of (program_of s.code))) (context_of s)
+abbrev pub left : Rules → Session → Script
+left rules s = left_of (program_of rules s.code).final s.idle (drop s.step (ops_of (program_of rules s.code))) (context_of s)
 
 -- a script that has its transfer out hears a reply
 abbrev pub hears : Script → Reply → Script
@@ -92,26 +93,26 @@ pub record OneMore (s s' : Session) : Type 0 where
   pub transfers : s'.transfers ≡ s.transfers + 1
 
 -- an outcome stands where a script stands: out with a transfer of the same call, or ended with the transfers counted
-abbrev pub StandsAt : Session → Outcome → Script → Type 0
-StandsAt s (sent t s') x = (x ≡ left s') × OneMore s s'
-StandsAt s (answered a n s') x = (x ≡ done a s'.driver) × (n ≡ s.transfers)
-StandsAt s (refused a s') x = ⊥
-StandsAt s (broken s') x = ⊥
+abbrev pub StandsAt : Rules → Session → Outcome → Script → Type 0
+StandsAt rules s (sent t s') x = (x ≡ left rules s') × OneMore s s'
+StandsAt rules s (answered a n s') x = (x ≡ done a s'.driver) × (n ≡ s.transfers)
+StandsAt rules s (refused a s') x = ⊥
+StandsAt rules s (broken s') x = ⊥
 
 -- an accepted call, from any session: its own code and arguments, no transfer made yet, and the script of its instructions from the start
-abbrev pub BeginsAt : Session → ℕ → ℕ → ℕ → Type 0
-BeginsAt s code a b =
-    Accepted s code a b
-    → StandsAt (begun s code a b) (step_def s (call code a b))
-    (decided ((program_of code).entry (context_of (begun s code a b))) (length (program_of code).steps) (context_of (begun s code a b)) (λ n. resume (program_of code).final n (ops_of (program_of code)) (context_of (begun s code a b))))
+abbrev pub BeginsAt : Rules → Session → ℕ → ℕ → ℕ → Type 0
+BeginsAt rules s code a b =
+    Accepted rules s code a b
+    → StandsAt rules (begun s code a b) (step_def rules s (call code a b))
+    (decided ((program_of rules code).entry (context_of (begun s code a b))) (length (program_of rules code).steps) (context_of (begun s code a b)) (λ n. resume (program_of rules code).final n (ops_of (program_of rules code)) (context_of (begun s code a b))))
 
 -- a waiting session that 15 lets pass, also one that no run leaves, stands in the script of its instructions:
 -- a reply that is not refused takes both one step on
-abbrev pub StepByStep : Session → ℕ → List ℕ → Type 0
-StepByStep s f bs =
-    Underway s
-    → zero_from (clean_from f (outstanding s).reads) bs ≡ true
-    → StandsAt s (step_def s (reply f bs)) (hears (left s) (cut (outstanding s) f bs))
+abbrev pub StepByStep : Rules → Session → ℕ → List ℕ → Type 0
+StepByStep rules s f bs =
+    Underway rules s
+    → zero_from (clean_from f (outstanding rules s).reads) bs ≡ true
+    → StandsAt rules s (step_def rules s (reply f bs)) (hears (left rules s) (cut (outstanding rules s) f bs))
 
 -- WHAT IS NEEDED. Parts in which two sessions are the same
 abbrev pub AllSame : List Part → Session → Session → Type 0
@@ -137,8 +138,8 @@ pub data Alike : Outcome → Outcome → Type 0 where
   same_refusal : (x : Answer) (s s' : Session) → Alike (refused x s) (refused x s')
 
 -- a reply depends on the parts that are needed, and on nothing else; so does all that comes after it
-abbrev pub DependsOnNeeded : Session → Session → ℕ → List ℕ → Type 0
-DependsOnNeeded s s' f bs = Underway s → Underway s' → Agree s s' → Alike (step_def s (reply f bs)) (step_def s' (reply f bs))
+abbrev pub DependsOnNeeded : Rules → Session → Session → ℕ → List ℕ → Type 0
+DependsOnNeeded rules s s' f bs = Underway rules s → Underway rules s' → Agree s s' → Alike (step_def rules s (reply f bs)) (step_def rules s' (reply f bs))
 
 -- two outcomes of one course: both calls go on at the same step, or both end with an answer of the same number
 pub data SameCourse : Outcome → Outcome → Type 0 where
@@ -147,9 +148,9 @@ pub data SameCourse : Outcome → Outcome → Type 0 where
   both_refuse : (x : Answer) (s s' : Session) → SameCourse (refused x s) (refused x s')
 
 -- the course looks at the parts of its table, and at nothing else
-abbrev pub CourseLooksAt : Session → Session → ℕ → List ℕ → Type 0
-CourseLooksAt s s' f bs =
-    Underway s → Underway s' → AgreeOn (looked_at s.code s.step) s s' → SameCourse (step_def s (reply f bs)) (step_def s' (reply f bs))
+abbrev pub CourseLooksAt : Rules → Session → Session → ℕ → List ℕ → Type 0
+CourseLooksAt rules s s' f bs =
+    Underway rules s → Underway rules s' → AgreeOn (looked_at s.code s.step) s s' → SameCourse (step_def rules s (reply f bs)) (step_def rules s' (reply f bs))
 
 -- a call that goes on keeps what it carries but for this
 abbrev pub Keeps : Session → ℕ → List ℕ → Outcome → Type 0
@@ -162,8 +163,8 @@ Keeps s f bs (refused x s') = Unit {0}
 Keeps s f bs (broken s') = Unit {0}
 
 -- all else stays: the driver, the code, A and B by `OneMore`, the rest by this
-abbrev pub KeepsTheRest : Session → ℕ → List ℕ → Type 0
-KeepsTheRest s f bs = Underway s → Keeps s f bs (step_def s (reply f bs))
+abbrev pub KeepsTheRest : Rules → Session → ℕ → List ℕ → Type 0
+KeepsTheRest rules s f bs = Underway rules s → Keeps s f bs (step_def rules s (reply f bs))
 
 -- FAILURES. The code that a failed reply ends a call with. SCOPE 5.8: if the clearing fails too, call 6 reports the read's code, calls 7 and 8 the
 -- clearing's. The clearing comes after the range read
@@ -175,36 +176,36 @@ abbrev pub fields_left : Session → Driver
 fields_left s = cond (eqb s.code 1) absent s.driver
 
 -- a failed reply ends its call at once, except a failed range read
-abbrev pub FailureEnds : Session → ℕ → List ℕ → Type 0
-FailureEnds s f bs =
-    Underway s
+abbrev pub FailureEnds : Rules → Session → ℕ → List ℕ → Type 0
+FailureEnds rules s f bs =
+    Underway rules s
     → (f ≡ 0 → ⊥)
     → zero_from 0 bs ≡ true
     → reads_range_at s.code s.step ≡ false
-    → step_def s (reply f bs) ≡ answered (Answer.BusError (failure_reported s f)) s.transfers (resting (fields_left s))
+    → step_def rules s (reply f bs) ≡ answered (Answer.BusError (failure_reported s f)) s.transfers (resting (fields_left s))
 
 -- a call that is given up: where a failed reply does not end it, a second one with the same code does
-abbrev pub GivenUp : Session → ℕ → List ℕ → List ℕ → Type 0
-GivenUp s f bs bs' =
-    (t : Transfer) (s' : Session) → Underway s
+abbrev pub GivenUp : Rules → Session → ℕ → List ℕ → List ℕ → Type 0
+GivenUp rules s f bs bs' =
+    (t : Transfer) (s' : Session) → Underway rules s
     → (f ≡ 0 → ⊥)
     → zero_from 0 bs ≡ true
     → zero_from 0 bs' ≡ true
-    → step_def s (reply f bs) ≡ sent t s'
-    → Underway s'
-    → step_def s' (reply f bs') ≡ answered (Answer.BusError f) s'.transfers (resting (fields_left s'))
+    → step_def rules s (reply f bs) ≡ sent t s'
+    → Underway rules s'
+    → step_def rules s' (reply f bs') ≡ answered (Answer.BusError f) s'.transfers (resting (fields_left s'))
 
 -- the transfer that is out is made of its parts, and of nothing else
-abbrev pub SentFrom : Session → Session → Type 0
-SentFrom s s' = Underway s → Underway s' → AgreeOn (sent_from s.code s.step) s s' → outstanding s ≡ outstanding s'
+abbrev pub SentFrom : Rules → Session → Session → Type 0
+SentFrom rules s s' = Underway rules s → Underway rules s' → AgreeOn (sent_from s.code s.step) s s' → outstanding rules s ≡ outstanding rules s'
 
 -- SCOPE 4.1: what a write reads back is ignored. A write is a transfer that writes more than its register
-abbrev pub IgnoresReadBack : Session → List ℕ → List ℕ → Type 0
-IgnoresReadBack s bs bs' =
-    Underway s → 2 ≤ (outstanding s).count
-    → zero_from (outstanding s).reads bs ≡ true
-    → zero_from (outstanding s).reads bs' ≡ true
-    → step_def s (reply 0 bs) ≡ step_def s (reply 0 bs')
+abbrev pub IgnoresReadBack : Rules → Session → List ℕ → List ℕ → Type 0
+IgnoresReadBack rules s bs bs' =
+    Underway rules s → 2 ≤ (outstanding rules s).count
+    → zero_from (outstanding rules s).reads bs ≡ true
+    → zero_from (outstanding rules s).reads bs' ≡ true
+    → step_def rules s (reply 0 bs) ≡ step_def rules s (reply 0 bs')
 
 -- WRITES AND ANSWERS of carried bytes, in the formulas of lib.rs (RustClocks, RustBringUp), for all bytes. Words are sent high byte first
 abbrev pub word_sent : ℕ → List ℕ
@@ -245,9 +246,9 @@ writes_of s =
     ∷ (14, 0, 0x44 ∷ word_sent (limit_sent s.a), 1)
     ∷ []
 
-abbrev pub EachWrite : Session → List (ℕ × ℕ × List ℕ × ℕ) → Type 0
-EachWrite s [] = Unit {0}
-EachWrite s (r ∷ rs) = (s.code ≡ r.0 → s.step ≡ r.1 → outstanding s ≡ transfer_of (chip_address s) r.2 r.3) × EachWrite s rs
+abbrev pub EachWrite : Rules → Session → List (ℕ × ℕ × List ℕ × ℕ) → Type 0
+EachWrite rules s [] = Unit {0}
+EachWrite rules s (r ∷ rs) = (s.code ≡ r.0 → s.step ≡ r.1 → outstanding rules s ≡ transfer_of (chip_address s) r.2 r.3) × EachWrite rules s rs
 
 -- the range word, or the failure code of its read
 abbrev pub range_answer : Session → Answer
@@ -272,17 +273,17 @@ answers_of s bs =
     ∷ (14, 0, Answer.Done 0, s.driver)
     ∷ []
 
-abbrev pub EachAnswer : Session → List ℕ → List (ℕ × ℕ × Answer × Driver) → Type 0
-EachAnswer s bs [] = Unit {0}
-EachAnswer s bs (r ∷ rs) =
-    (s.code ≡ r.0 → s.step ≡ r.1 → step_def s (reply 0 bs) ≡ answered r.2 s.transfers (resting r.3)) × EachAnswer s bs rs
+abbrev pub EachAnswer : Rules → Session → List ℕ → List (ℕ × ℕ × Answer × Driver) → Type 0
+EachAnswer rules s bs [] = Unit {0}
+EachAnswer rules s bs (r ∷ rs) =
+    (s.code ≡ r.0 → s.step ≡ r.1 → step_def rules s (reply 0 bs) ≡ answered r.2 s.transfers (resting r.3)) × EachAnswer rules s bs rs
 
 -- so for every session, also one that no run leaves
-abbrev pub CarriedWrites : Session → Type 0
-CarriedWrites s = EachWrite s (writes_of s)
+abbrev pub CarriedWrites : Rules → Session → Type 0
+CarriedWrites rules s = EachWrite rules s (writes_of s)
 
-abbrev pub CarriedAnswers : Session → List ℕ → Type 0
-CarriedAnswers s bs = Underway s → length s.carried ≡ 24 → zero_from (outstanding s).reads bs ≡ true → EachAnswer s bs (answers_of s bs)
+abbrev pub CarriedAnswers : Rules → Session → List ℕ → Type 0
+CarriedAnswers rules s bs = Underway rules s → length s.carried ≡ 24 → zero_from (outstanding rules s).reads bs ≡ true → EachAnswer rules s bs (answers_of s bs)
 
 -- THE BUDGET READS, for all bytes. The six replies that the carried bytes from slot k on are, in the Rust's order
 abbrev pub budget_replies : ℕ → List ℕ → List Reply
@@ -305,54 +306,54 @@ abbrev pub chip_in : Session → ℕ → Chip
 chip_in s budget = record { address = s.a % 256; stop_variable = byte 1 s.carried; measurement_timing_budget_microseconds = budget }
 
 -- a call waits for the budget reply that comes after n others, whose bytes are carried from slot k on; `x` is lib.rs from the first of the six reads on
-pub data BudgetReply (s : Session) (n : ℕ) : ℕ → Script → Type 0 where
-  in_call_15 : s.code ≡ 15 → s.step ≡ n → BudgetReply s n 8 (method number s.driver get_measurement_timing_budget)
-  in_call_9 : s.code ≡ 9 → s.step ≡ n → BudgetReply s n 8 (method flag s.driver (set_budget_from_reads s.a))
-  in_bring_up : s.code ≡ 1 → s.step ≡ 129 + n → BudgetReply s n 8 (constructed (chip_in s 0) budget_and_calibration)
-  again_in_bring_up : s.code ≡ 1 → s.step ≡ 136 + n → BudgetReply s n 16 (constructed (chip_in s s.found_budget) (set_budget_from_reads s.found_budget >> calibration))
+pub data BudgetReply (rules : Rules) (s : Session) (n : ℕ) : ℕ → Script → Type 0 where
+  in_call_15 : s.code ≡ 15 → s.step ≡ n → BudgetReply rules s n 8 (method number s.driver get_measurement_timing_budget)
+  in_call_9 : s.code ≡ 9 → s.step ≡ n → BudgetReply rules s n 8 (method flag s.driver (set_budget_from_reads rules s.a))
+  in_bring_up : s.code ≡ 1 → s.step ≡ 129 + n → BudgetReply rules s n 8 (constructed (chip_in s 0) (budget_and_calibration rules))
+  again_in_bring_up : s.code ≡ 1 → s.step ≡ 136 + n → BudgetReply rules s n 16 (constructed (chip_in s s.found_budget) (set_budget_from_reads rules s.found_budget >> calibration))
 
 -- SCOPE 2.2: the first place in the Rust's order, also on bytes that no run leaves. The reply leads where lib.rs is after the carried bytes as
 -- replies and then this one: to its panic if they have one, else to its next read, its word or its answer
-abbrev pub FirstPlace : Session → List ℕ → Type 0
-FirstPlace s bs =
-    (n k : ℕ) (x : Script) → n ≤ 5 → BudgetReply s n k x
-    → Underway s
+abbrev pub FirstPlace : Rules → Session → List ℕ → Type 0
+FirstPlace rules s bs =
+    (n k : ℕ) (x : Script) → n ≤ 5 → BudgetReply rules s n k x
+    → Underway rules s
     → length s.carried ≡ 24
-    → zero_from (clean_from 0 (outstanding s).reads) bs ≡ true
-    → StandsAt s (step_def s (reply 0 bs)) (after_replies x (take n (budget_replies k s.carried) ++ cut (outstanding s) 0 bs ∷ []))
+    → zero_from (clean_from 0 (outstanding rules s).reads) bs ≡ true
+    → StandsAt rules s (step_def rules s (reply 0 bs)) (after_replies x (take n (budget_replies k s.carried) ++ cut (outstanding rules s) 0 bs ∷ []))
 
 -- a call waits with a final range word out; `x` is lib.rs from the first of the six reads on
-pub data WordIsOut (s : Session) : ℕ → Script → Type 0 where
-  of_call_9 : s.code ≡ 9 → s.step ≡ 6 → WordIsOut s 8 (method flag s.driver (set_budget_from_reads s.a))
-  of_bring_up : s.code ≡ 1 → s.step ≡ 142 → WordIsOut s 16 (constructed (chip_in s s.found_budget) (set_budget_from_reads s.found_budget >> calibration))
+pub data WordIsOut (rules : Rules) (s : Session) : ℕ → Script → Type 0 where
+  of_call_9 : s.code ≡ 9 → s.step ≡ 6 → WordIsOut rules s 8 (method flag s.driver (set_budget_from_reads rules s.a))
+  of_bring_up : s.code ≡ 1 → s.step ≡ 142 → WordIsOut rules s 16 (constructed (chip_in s s.found_budget) (set_budget_from_reads rules s.found_budget >> calibration))
 
 -- where lib.rs writes a word after the carried bytes as replies, that transfer is out
-abbrev pub WordOut : Session → Type 0
-WordOut s =
-    (k : ℕ) (x : Script) (t : Transfer) (f : Reply → Script) → WordIsOut s k x
+abbrev pub WordOut : Rules → Session → Type 0
+WordOut rules s =
+    (k : ℕ) (x : Script) (t : Transfer) (f : Reply → Script) → WordIsOut rules s k x
     → length s.carried ≡ 24
     → after_replies x (budget_replies k s.carried) ≡ send t f
     → byte 0 t.written ≡ 0x71
-    → outstanding s ≡ t
+    → outstanding rules s ≡ t
 
 -- a bring-up has written its sequence steps: it goes on as lib.rs sets the budget that is carried, also one below 20,000
-abbrev pub StepsWritten : Session → List ℕ → Type 0
-StepsWritten s bs =
+abbrev pub StepsWritten : Rules → Session → List ℕ → Type 0
+StepsWritten rules s bs =
     s.code ≡ 1 → s.step ≡ 135
-    → Underway s
+    → Underway rules s
     → length s.carried ≡ 24
-    → zero_from (clean_from 0 (outstanding s).reads) bs ≡ true
-    → StandsAt s (step_def s (reply 0 bs)) (constructed (chip_in s s.found_budget) (set_measurement_timing_budget s.found_budget >> calibration))
+    → zero_from (clean_from 0 (outstanding rules s).reads) bs ≡ true
+    → StandsAt rules s (step_def rules s (reply 0 bs)) (constructed (chip_in s s.found_budget) (set_measurement_timing_budget rules s.found_budget >> calibration))
 
 -- and SCOPE 5.7: period × oscillator word above 32 bits is place 1: call 4, with a period, waits for the oscillator word
-abbrev pub FirstPlaceOfPeriod : Session → List ℕ → Type 0
-FirstPlaceOfPeriod s bs =
+abbrev pub FirstPlaceOfPeriod : Rules → Session → List ℕ → Type 0
+FirstPlaceOfPeriod rules s bs =
     s.code ≡ 4 → s.step ≡ 7
     → (s.a ≡ 0 → ⊥)
-    → Underway s
+    → Underway rules s
     → length s.carried ≡ 24
-    → zero_from (clean_from 0 (outstanding s).reads) bs ≡ true
-    → StandsAt s (step_def s (reply 0 bs)) (hears (method unit s.driver (start_timed s.a >> Ok tt)) (cut (outstanding s) 0 bs))
+    → zero_from (clean_from 0 (outstanding rules s).reads) bs ≡ true
+    → StandsAt rules s (step_def rules s (reply 0 bs)) (hears (method unit s.driver (start_timed s.a >> Ok tt)) (cut (outstanding rules s) 0 bs))
 
 -- a call that goes on at a step
 abbrev pub GoesOnAt : ℕ → Outcome → Type 0
@@ -362,6 +363,6 @@ GoesOnAt k (refused x s') = ⊥
 GoesOnAt k (broken s') = ⊥
 
 -- with no period lib.rs reads no oscillator word; a session that is handed in there goes on, and the product 0 is written
-abbrev pub NoPeriod : Session → List ℕ → Type 0
-NoPeriod s bs =
-    s.code ≡ 4 → s.step ≡ 7 → s.a ≡ 0 → Underway s → zero_from (outstanding s).reads bs ≡ true → GoesOnAt 8 (step_def s (reply 0 bs))
+abbrev pub NoPeriod : Rules → Session → List ℕ → Type 0
+NoPeriod rules s bs =
+    s.code ≡ 4 → s.step ≡ 7 → s.a ≡ 0 → Underway rules s → zero_from (outstanding rules s).reads bs ≡ true → GoesOnAt 8 (step_def rules s (reply 0 bs))

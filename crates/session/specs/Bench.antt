@@ -2,8 +2,10 @@
 -- and what a session that no run leaves makes of a reply.
 use Rattle.std.specs.Prelude.{◌≡◌, true, false, List, [], ◌∷◌, map, ◌++◌, ℕ, ◌+◌, ◌*◌, replicate}
 use Rattle.std.proofs.lemmas.List.Edits.{sets}
+use Rattle.session.specs.declared.Rules.{Rules}
 use Rattle.session.specs.Bus.{Driver, Answer, transfer_of, number_of, values_of}
 use Rattle.session.specs.Instructions.{timing_slot}
+use Rattle.session.specs.Calls.{ceiling_of}
 use Rattle.session.specs.Machine.{Session, Outcome, sent, answered, broken, zeros, calling, with_place, with_kept, resting, fresh_session, reply_def}
 use Rattle.session.specs.Records.{call, reply, other, call_bytes, reply_bytes, records_of}
 use Rattle.session.specs.History.{step_def, transfer, answer, refusal, Entry, run_def}
@@ -46,58 +48,64 @@ abbrev pub Panics : Session → ℕ → Outcome → Type 0
 Panics s place o = o ≡ answered (Answer.Panic place) s.transfers (resting s.driver)
 
 -- a good reply of one byte
-abbrev pub replied1 : Session → ℕ → Outcome
-replied1 s x = reply_def s 0 (x ∷ 0 ∷ 0 ∷ 0 ∷ 0 ∷ 0 ∷ [])
+abbrev pub replied1 : Rules → Session → ℕ → Outcome
+replied1 rules s x = reply_def rules s 0 (x ∷ 0 ∷ 0 ∷ 0 ∷ 0 ∷ 0 ∷ [])
 
 -- call 15, waiting for its reply n + 1, with the bytes of the first n carried
 abbrev pub reading : ℕ → List ℕ → Session
 reading n bytes = held 15 0 0 n (n + 1) bytes
 
 -- SCOPE 2.2: arithmetic on carried bytes gives the first place in the Rust's order, also on bytes that no run leaves
-pub record CarriedPlaces : Type 0 where
-  pub pre_before_final : Panics (reading 2 (0x00 ∷ 0x10 ∷ 0x00 ∷ [])) 2 (replied1 (reading 2 (0x00 ∷ 0x10 ∷ 0x00 ∷ [])) 1)
-  pub final_before_period : Panics (reading 3 (0x00 ∷ 0x00 ∷ 0x00 ∷ 0x10 ∷ 0x00 ∷ [])) 2 (replied1 (reading 3 (0x00 ∷ 0x00 ∷ 0x00 ∷ 0x10 ∷ 0x00 ∷ [])) 255)
-  pub less_before_period : Panics (reading 3 (0x40 ∷ 0x00 ∷ 0x96 ∷ 0x00 ∷ 0x00 ∷ [])) 3 (replied1 (reading 3 (0x40 ∷ 0x00 ∷ 0x96 ∷ 0x00 ∷ 0x00 ∷ [])) 255)
-  pub period_before_msrc : Panics (reading 4 (0x00 ∷ 0x00 ∷ 0x00 ∷ 0x00 ∷ 0x00 ∷ 0xFF ∷ [])) 4 (replied1 (reading 4 (0x00 ∷ 0x00 ∷ 0x00 ∷ 0x00 ∷ 0x00 ∷ 0xFF ∷ [])) 255)
-  pub pre_before_all : Panics (reading 4 (0x00 ∷ 0x10 ∷ 0x00 ∷ 0x00 ∷ 0x00 ∷ 0xFF ∷ [])) 2 (replied1 (reading 4 (0x00 ∷ 0x10 ∷ 0x00 ∷ 0x00 ∷ 0x00 ∷ 0xFF ∷ [])) 255)
-  pub msrc_before_last : Panics (reading 5 (0xE8 ∷ 0x00 ∷ 0x96 ∷ 0x01 ∷ 0xFE ∷ 0x06 ∷ 0xFF ∷ [])) 5 (replied1 (reading 5 (0xE8 ∷ 0x00 ∷ 0x96 ∷ 0x01 ∷ 0xFE ∷ 0x06 ∷ 0xFF ∷ [])) 255)
-  pub period_before_last : Panics (reading 5 (0xE8 ∷ 0x00 ∷ 0x96 ∷ 0x01 ∷ 0xFE ∷ 0xFF ∷ 0xFF ∷ [])) 4 (replied1 (reading 5 (0xE8 ∷ 0x00 ∷ 0x96 ∷ 0x01 ∷ 0xFE ∷ 0xFF ∷ 0xFF ∷ [])) 4)
-  pub none : replied1 (reading 5 (0xE8 ∷ 0x00 ∷ 0x96 ∷ 0x01 ∷ 0xFE ∷ 0x06 ∷ 0x25 ∷ [])) 4 ≡ answered (Answer.Done 31326) 6 (resting (reading 5 []).driver)
+pub record CarriedPlaces (rules : Rules) : Type 0 where
+  pub pre_before_final : Panics (reading 2 (0x00 ∷ 0x10 ∷ 0x00 ∷ [])) 2 (replied1 rules (reading 2 (0x00 ∷ 0x10 ∷ 0x00 ∷ [])) 1)
+  pub final_before_period : Panics (reading 3 (0x00 ∷ 0x00 ∷ 0x00 ∷ 0x10 ∷ 0x00 ∷ [])) 2 (replied1 rules (reading 3 (0x00 ∷ 0x00 ∷ 0x00 ∷ 0x10 ∷ 0x00 ∷ [])) 255)
+  pub less_before_period : Panics (reading 3 (0x40 ∷ 0x00 ∷ 0x96 ∷ 0x00 ∷ 0x00 ∷ [])) 3 (replied1 rules (reading 3 (0x40 ∷ 0x00 ∷ 0x96 ∷ 0x00 ∷ 0x00 ∷ [])) 255)
+  pub period_before_msrc : Panics (reading 4 (0x00 ∷ 0x00 ∷ 0x00 ∷ 0x00 ∷ 0x00 ∷ 0xFF ∷ [])) 4 (replied1 rules (reading 4 (0x00 ∷ 0x00 ∷ 0x00 ∷ 0x00 ∷ 0x00 ∷ 0xFF ∷ [])) 255)
+  pub pre_before_all : Panics (reading 4 (0x00 ∷ 0x10 ∷ 0x00 ∷ 0x00 ∷ 0x00 ∷ 0xFF ∷ [])) 2 (replied1 rules (reading 4 (0x00 ∷ 0x10 ∷ 0x00 ∷ 0x00 ∷ 0x00 ∷ 0xFF ∷ [])) 255)
+  pub msrc_before_last : Panics (reading 5 (0xE8 ∷ 0x00 ∷ 0x96 ∷ 0x01 ∷ 0xFE ∷ 0x06 ∷ 0xFF ∷ [])) 5 (replied1 rules (reading 5 (0xE8 ∷ 0x00 ∷ 0x96 ∷ 0x01 ∷ 0xFE ∷ 0x06 ∷ 0xFF ∷ [])) 255)
+  pub period_before_last : Panics (reading 5 (0xE8 ∷ 0x00 ∷ 0x96 ∷ 0x01 ∷ 0xFE ∷ 0xFF ∷ 0xFF ∷ [])) 4 (replied1 rules (reading 5 (0xE8 ∷ 0x00 ∷ 0x96 ∷ 0x01 ∷ 0xFE ∷ 0xFF ∷ 0xFF ∷ [])) 4)
+  pub none : replied1 rules (reading 5 (0xE8 ∷ 0x00 ∷ 0x96 ∷ 0x01 ∷ 0xFE ∷ 0x06 ∷ 0x25 ∷ [])) 4 ≡ answered (Answer.Done 31326) 6 (resting (reading 5 []).driver)
   -- a failed reply is answer 3 before any arithmetic
-  pub failed : reply_def (reading 2 (0x00 ∷ 0x10 ∷ 0x00 ∷ [])) 7 (0 ∷ 0 ∷ 0 ∷ 0 ∷ 0 ∷ 0 ∷ []) ≡ answered (Answer.BusError 7) 3 (resting (reading 2 []).driver)
+  pub failed : reply_def rules (reading 2 (0x00 ∷ 0x10 ∷ 0x00 ∷ [])) 7 (0 ∷ 0 ∷ 0 ∷ 0 ∷ 0 ∷ 0 ∷ []) ≡ answered (Answer.BusError 7) 3 (resting (reading 2 []).driver)
 
 -- a waiting call goes on as the Rust's code after its transfer, with arguments that 5, 6 or 1 would have stopped
-pub record HeldValues : Type 0 where
-  pub any_address : reply_def (held 3 0x03 0 0 1 []) 0 (0 ∷ 0 ∷ 0 ∷ 0 ∷ 0 ∷ 0 ∷ [])
+pub record HeldValues (rules : Rules) : Type 0 where
+  pub any_address : reply_def rules (held 3 0x03 0 0 1 []) 0 (0 ∷ 0 ∷ 0 ∷ 0 ∷ 0 ∷ 0 ∷ [])
       ≡ answered (Answer.Done 0) 1 (resting (record { up = true; address = 0x03; stop = 0x3C; budget = 31326 }))
-  pub twelve_bits : replied1 (held 10 0xFFFF 0xFFFF 0 1 []) 0 ≡ sent (transfer_of 0x29 (0x0C ∷ 0x0F ∷ 0xFF ∷ []) 1) (held 10 0xFFFF 0xFFFF 1 2 [])
-  pub short_budget : replied1 (held 9 3000 0 6 7 []) 0
+  pub twelve_bits : replied1 rules (held 10 0xFFFF 0xFFFF 0 1 []) 0 ≡ sent (transfer_of 0x29 (0x0C ∷ 0x0F ∷ 0xFF ∷ []) 1) (held 10 0xFFFF 0xFFFF 1 2 [])
+  pub short_budget : replied1 rules (held 9 3000 0 6 7 []) 0
       ≡ answered (Answer.Done 0) 7 (resting (record { up = true; address = 0x29; stop = 0x3C; budget = 3000 }))
   -- call 4 with period 0 at a timed step writes the product 0, and then the mode of period 0
-  pub no_period : reply_def (held 4 0 0 7 8 []) 0 (0x12 ∷ 0x34 ∷ 0 ∷ 0 ∷ 0 ∷ 0 ∷ []) ≡ sent (transfer_of 0x29 (0x04 ∷ 0 ∷ 0 ∷ 0 ∷ 0 ∷ []) 1) (held 4 0 0 8 9 (0x12 ∷ 0x34 ∷ []))
-  pub no_period_mode : replied1 (held 4 0 0 8 9 (0x12 ∷ 0x34 ∷ [])) 0 ≡ sent (transfer_of 0x29 (0x00 ∷ 0x02 ∷ []) 1) (held 4 0 0 9 10 (0x12 ∷ 0x34 ∷ []))
+  pub no_period : reply_def rules (held 4 0 0 7 8 []) 0 (0x12 ∷ 0x34 ∷ 0 ∷ 0 ∷ 0 ∷ 0 ∷ []) ≡ sent (transfer_of 0x29 (0x04 ∷ 0 ∷ 0 ∷ 0 ∷ 0 ∷ []) 1) (held 4 0 0 8 9 (0x12 ∷ 0x34 ∷ []))
+  pub no_period_mode : replied1 rules (held 4 0 0 8 9 (0x12 ∷ 0x34 ∷ [])) 0 ≡ sent (transfer_of 0x29 (0x00 ∷ 0x02 ∷ []) 1) (held 4 0 0 9 10 (0x12 ∷ 0x34 ∷ []))
   -- SCOPE 5.1, call 11: low × 65536 + high
-  pub pair : reply_def (held 11 0 0 1 2 (0x00 ∷ 0x96 ∷ [])) 0 (0x0F ∷ 0xFF ∷ 0 ∷ 0 ∷ 0 ∷ 0 ∷ []) ≡ answered (Answer.Done (300 * 65536 + 8190)) 2 (resting (held 11 0 0 1 2 []).driver)
+  pub pair : reply_def rules (held 11 0 0 1 2 (0x00 ∷ 0x96 ∷ [])) 0 (0x0F ∷ 0xFF ∷ 0 ∷ 0 ∷ 0 ∷ 0 ∷ []) ≡ answered (Answer.Done (300 * 65536 + 8190)) 2 (resting (held 11 0 0 1 2 []).driver)
   -- a count at the ceiling passes 15, and is over it one transfer later
-  pub at_ceiling : replied1 (held 4 0 0 0 10 []) 0 ≡ sent (transfer_of 0x29 (0xFF ∷ 0x01 ∷ []) 1) (held 4 0 0 1 11 [])
-  pub over_ceiling : replied1 (held 4 0 0 1 11 []) 0 ≡ broken (held 4 0 0 1 11 [])
+  pub at_ceiling : replied1 rules (held 4 0 0 0 10 []) 0 ≡ sent (transfer_of 0x29 (0xFF ∷ 0x01 ∷ []) 1) (held 4 0 0 1 11 [])
+  pub over_ceiling : replied1 rules (held 4 0 0 1 11 []) 0 ≡ broken (held 4 0 0 1 11 [])
 
 -- a session that is up and rests
 abbrev pub standing : Session
 standing = resting (record { up = true; address = 0x29; stop = 0x3C; budget = 31326 })
 
 -- the refusal of a call there, 0 if it is accepted
-abbrev pub refusal_of : ℕ × ℕ × ℕ → ℕ
-refusal_of x = refusal_number (step_def standing (call x.0 x.1 x.2))
+abbrev pub refusal_of : Rules → ℕ × ℕ × ℕ → ℕ
+refusal_of rules x = refusal_number (step_def rules standing (call x.0 x.1 x.2))
+
+-- SCOPE 2.6: the codes at the edges of the range, and the ceilings of the calls that wait. By the first rules these never change
+pub record RulesValues : Type 0 where
+  pub by_first : map (refusal_of Rules.First) ((0, 0, 0) ∷ (2, 0, 0) ∷ (15, 0, 0) ∷ (16, 0, 0) ∷ []) ≡ 13 ∷ 0 ∷ 0 ∷ 13 ∷ []
+  pub by_current : map (refusal_of Rules.Current) ((0, 0, 0) ∷ (2, 0, 0) ∷ (15, 0, 0) ∷ (16, 0, 0) ∷ []) ≡ 13 ∷ 0 ∷ 0 ∷ 13 ∷ []
+  pub most_by_first : map (ceiling_of Rules.First) (1 ∷ 7 ∷ 8 ∷ []) ≡ 85688 ∷ 10003 ∷ 20011 ∷ []
+  pub most_by_current : map (ceiling_of Rules.Current) (1 ∷ 7 ∷ 8 ∷ []) ≡ 85688 ∷ 10003 ∷ 20011 ∷ []
 
 -- SCOPE 7.2: the edges of the argument ranges, and arguments that are not used
-pub record EdgeValues : Type 0 where
-  pub codes : map refusal_of ((0, 0, 0) ∷ (2, 0, 0) ∷ (15, 0, 0) ∷ (16, 0, 0) ∷ []) ≡ 13 ∷ 0 ∷ 0 ∷ 13 ∷ []
-  pub addresses : map refusal_of ((1, 255, 0) ∷ (1, 256, 0) ∷ (3, 255, 0) ∷ (3, 256, 0) ∷ []) ≡ 0 ∷ 13 ∷ 0 ∷ 13 ∷ []
-  pub thresholds : map refusal_of ((10, 65535, 65535) ∷ (10, 65536, 0) ∷ []) ≡ 0 ∷ 13 ∷ []
-  pub gpio : map refusal_of ((12, 3, 1) ∷ (12, 4, 0) ∷ (12, 0, 2) ∷ []) ≡ 0 ∷ 13 ∷ 13 ∷ []
-  pub long : map refusal_of ((4, 4294967295, 0) ∷ (9, 4294967295, 0) ∷ (14, 4294967295, 0) ∷ (4, 0, 1) ∷ (9, 0, 1) ∷ (14, 0, 1) ∷ []) ≡ 0 ∷ 0 ∷ 0 ∷ 13 ∷ 13 ∷ 13 ∷ []
-  pub unused : map refusal_of ((2, 1, 0) ∷ (5, 0, 1) ∷ (6, 1, 0) ∷ (7, 0, 1) ∷ (8, 1, 0) ∷ (11, 0, 1) ∷ (13, 1, 0) ∷ (15, 0, 1) ∷ (1, 0, 1) ∷ (3, 0, 1) ∷ []) ≡ replicate 10 13
+pub record EdgeValues (rules : Rules) : Type 0 where
+  pub addresses : map (refusal_of rules) ((1, 255, 0) ∷ (1, 256, 0) ∷ (3, 255, 0) ∷ (3, 256, 0) ∷ []) ≡ 0 ∷ 13 ∷ 0 ∷ 13 ∷ []
+  pub thresholds : map (refusal_of rules) ((10, 65535, 65535) ∷ (10, 65536, 0) ∷ []) ≡ 0 ∷ 13 ∷ []
+  pub gpio : map (refusal_of rules) ((12, 3, 1) ∷ (12, 4, 0) ∷ (12, 0, 2) ∷ []) ≡ 0 ∷ 13 ∷ 13 ∷ []
+  pub long : map (refusal_of rules) ((4, 4294967295, 0) ∷ (9, 4294967295, 0) ∷ (14, 4294967295, 0) ∷ (4, 0, 1) ∷ (9, 0, 1) ∷ (14, 0, 1) ∷ []) ≡ 0 ∷ 0 ∷ 0 ∷ 13 ∷ 13 ∷ 13 ∷ []
+  pub unused : map (refusal_of rules) ((2, 1, 0) ∷ (5, 0, 1) ∷ (6, 1, 0) ∷ (7, 0, 1) ∷ (8, 1, 0) ∷ (11, 0, 1) ∷ (13, 1, 0) ∷ (15, 0, 1) ∷ (1, 0, 1) ∷ (3, 0, 1) ∷ []) ≡ replicate 10 13
 
 -- one of each refusal: call 2 while not up, a reply while no call waits, no kind, a bring-up, call 2 while it waits, a stray byte,
 -- the identity, a failure with a byte beside it
@@ -126,15 +134,16 @@ refused_history =
     ∷ record { what = call 2 0 0; got = refusal Answer.NotUp }
     ∷ []
 
-pub record SessionValues : Type 0 where
+-- by the rules of each
+pub record SessionValues (rules : Rules) : Type 0 where
   pub answers : AnswerValues
-  pub carried : CarriedPlaces
-  pub held : HeldValues
+  pub carried : CarriedPlaces rules
+  pub held : HeldValues rules
   -- an answer leaves the driver's fields and zeros
   pub rest : (d : Driver) → resting d ≡ record { driver = d; code = 0; a = 0; b = 0; step = 0; idle = 0; transfers = 0; failed = 0; found_budget = 0; carried = replicate 24 0 }
-  pub edges : EdgeValues
-  pub refused : (run_def fresh_session refused_input).history ≡ refused_history
-  pub counted : (run_def fresh_session refused_input).counts ≡ record { calls = 2; answers = 1; replies = 1; transfers = 2; refused = 6 }
+  pub edges : EdgeValues rules
+  pub refused : (run_def rules fresh_session refused_input).history ≡ refused_history
+  pub counted : (run_def rules fresh_session refused_input).counts ≡ record { calls = 2; answers = 1; replies = 1; transfers = 2; refused = 6 }
   pub fresh : fresh_session
       ≡ record {
         driver = record { up = false; address = 0; stop = 0; budget = 0 };
@@ -153,7 +162,7 @@ pub record SessionValues : Type 0 where
   pub reply_record : records_of (0x02 ∷ 0x01 ∷ 0x13 ∷ 0x24 ∷ 0x35 ∷ 0x46 ∷ 0x57 ∷ 0x68 ∷ [])
       ≡ reply 0x01 (0x13 ∷ 0x24 ∷ 0x35 ∷ 0x46 ∷ 0x57 ∷ 0x68 ∷ []) ∷ []
   pub other_records : records_of (0x03 ∷ 0x02 ∷ 0 ∷ 0 ∷ 0 ∷ 0 ∷ 0 ∷ 0 ∷ 0x0A ∷ 0x01 ∷ 0 ∷ 0 ∷ 0 ∷ 0 ∷ 0 ∷ 0 ∷ 0x00 ∷ 0x02 ∷ 0 ∷ 0 ∷ 0 ∷ 0 ∷ 0 ∷ 0 ∷ []) ≡ other ∷ other ∷ other ∷ []
-  pub printed : run_def fresh_session input
+  pub printed : run_def rules fresh_session input
       ≡ record {
         answer = Answer.Done 0;
         session = fresh_session;

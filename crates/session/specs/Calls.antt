@@ -2,8 +2,11 @@
 use Rattle.std.specs.Prelude.{Bool, true, ◌||◌, ◌&&◌, List, [], ◌∷◌, ◌++◌, map, ℕ, zero, suc, ◌+◌, ◌-◌, ◌*◌, ltb, leb, length, get_or, is_none, is_err}
 use Rattle.rate.specs.Rate.{signal_rate_limit_word}
 use Rattle.threshold.specs.Threshold.{check_thresholds, decode_threshold}
+use Rattle.budget.specs.declared.DssTerm.{DssTerm}
 use Rattle.session.specs.declared.Setting.{Setting}
 use Rattle.session.specs.Bus.{byte, Condition, Driver, with_driver_address, with_driver_budget}
+use Rattle.session.specs.declared.Rules.{Rules}
+use Rattle.session.specs.Rules.{dss_of, tries_of}
 use Rattle.session.specs.Instructions.{Instruction, Context, declines, wrong_address, wrong_argument, Verdict, onward, stop, test, Op, Final, success, failure, identity_slot, stop_slot, mask_slot, spad_slot, range_slot, timing_slot, second_slot}
 use Rattle.budget.specs.Budget.{too_short}
 use Rattle.session.specs.Steps.{slot, slot_word, pass, address_in, low_in, op_of}
@@ -41,8 +44,8 @@ abbrev pub budget_reads : List Instruction
 budget_reads = timing_reads timing_slot ++ Instruction.FindBudget ∷ []
 
 -- lib.rs: set_measurement_timing_budget after its first test
-abbrev pub budget_steps : ℕ → Setting → List Instruction
-budget_steps k x = timing_reads k ++ Instruction.ReadLast k x ∷ Instruction.WriteWord k x ∷ []
+abbrev pub budget_steps : ℕ → Setting → DssTerm → List Instruction
+budget_steps k x dss = timing_reads k ++ Instruction.ReadLast k x dss ∷ Instruction.WriteWord k x dss ∷ []
 
 -- lib.rs: set_gpio_config
 abbrev pub gpio_steps : Instruction → Instruction → List Instruction
@@ -87,8 +90,8 @@ spad_steps =
     ∷ rows ((0xFF, 0x01) ∷ (0x00, 0x01) ∷ (0xFF, 0x00) ∷ (0x80, 0x00) ∷ [])
 
 -- lib.rs: with_address and init_hardware. SCOPE 5.2: 153 transfers and three waits
-abbrev pub bring_up_steps : List Instruction
-bring_up_steps =
+abbrev pub bring_up_steps : DssTerm → List Instruction
+bring_up_steps dss =
     Instruction.Identify
     ∷ Instruction.Read 0x89 mask_slot
     ∷ Instruction.WriteOr 0x89 0x01
@@ -107,7 +110,7 @@ bring_up_steps =
     ++ gpio_steps (Instruction.Write 0x0A 0x04) (Instruction.WriteAnd 0x84 0xEF)
     ++ budget_reads
     ++ Instruction.WriteSteps
-    ∷ budget_steps second_slot Setting.Found
+    ∷ budget_steps second_slot Setting.Found dss
     ++ Instruction.Write 0x01 0x01
     ∷ calibration 0x41
     ++ Instruction.Write 0x01 0x02
@@ -139,7 +142,7 @@ valued most steps value =
 abbrev pub plain : ℕ → List Instruction → Program
 plain most steps = valued most steps (λ c. 0)
 
--- SCOPE 8.3: the range read is the read of the word at 0x1E
+-- SCOPE 5.8: the range read is the read of the word at 0x1E
 abbrev pub read_range : Instruction
 read_range = Instruction.ReadRange 0x1E 2 range_slot 0
 
@@ -155,14 +158,14 @@ ranging most steps =
     }
 
 -- call 1, lib.rs: with_address
-abbrev pub with_address_call : Program
-with_address_call =
+abbrev pub with_address_call : DssTerm → Program
+with_address_call dss =
     record {
       greatest_a = 255;
       greatest_b = 0;
       ceiling = 85688;
       entry = pass;
-      steps = bring_up_steps;
+      steps = bring_up_steps dss;
       final = λ c. success 0 (brought_up (address_in c) c.carried c.found_budget);
     }
 
@@ -213,14 +216,14 @@ read_range_single_call =
     (preparation ++ Instruction.Write 0x80 0x00 ∷ Instruction.Write 0x00 0x01 ∷ Instruction.Await Condition.Started ∷ Instruction.Await Condition.StatusReady ∷ [])
 
 -- call 9, lib.rs: set_measurement_timing_budget
-abbrev pub set_budget_call : Program
-set_budget_call =
+abbrev pub set_budget_call : DssTerm → Program
+set_budget_call dss =
     record {
       greatest_a = 4294967295;
       greatest_b = 0;
       ceiling = 7;
       entry = λ c. test (too_short c.a) (stop declines) onward;
-      steps = budget_steps timing_slot Setting.Asked;
+      steps = budget_steps timing_slot Setting.Asked dss;
       final = λ c. success 0 (with_driver_budget c.driver c.a);
     }
 
@@ -279,27 +282,29 @@ get_budget_call = valued 6 budget_reads (λ c. c.found_budget)
 abbrev pub nothing : Program
 nothing = record { greatest_a = 0; greatest_b = 0; ceiling = 0; entry = pass; steps = []; final = λ c. failure 0 }
 
--- by code; no call has the code 0. `new` is call 1 at the address `default_address`
-unfoldable pub programs : List Program
-programs =
-    nothing ∷ with_address_call ∷ who_am_i_call ∷ set_address_call ∷ start_continuous_call ∷ stop_continuous_call ∷ read_range_mm_call ∷ read_range_continuous_call
-    ∷ read_range_single_call ∷ set_budget_call ∷ set_thresholds_call ∷ get_thresholds_call ∷ set_gpio_config_call ∷ clear_interrupt_status_call ∷ set_signal_rate_limit_call ∷ get_budget_call ∷ []
+-- by code; no call has the code 0. `new` is call 1 at the address `default_address`. All calls of today; which of them the rules have says
+-- `top_code`
+unfoldable pub programs : Rules → List Program
+programs rules =
+    nothing ∷ with_address_call (dss_of rules) ∷ who_am_i_call ∷ set_address_call ∷ start_continuous_call ∷ stop_continuous_call ∷ read_range_mm_call ∷ read_range_continuous_call
+    ∷ read_range_single_call ∷ set_budget_call (dss_of rules) ∷ set_thresholds_call ∷ get_thresholds_call ∷ set_gpio_config_call ∷ clear_interrupt_status_call ∷ set_signal_rate_limit_call ∷ get_budget_call ∷ []
 
-unfoldable pub program_of : ℕ → Program
-program_of code = get_or programs code nothing
+unfoldable pub program_of : Rules → ℕ → Program
+program_of rules code = get_or (programs rules) code nothing
 
 -- lib.rs: DEFAULT_ADDRESS
 abbrev pub default_address : ℕ
 default_address = 0x29
 
--- SCOPE 7.2: the codes are those of the calls, from 1 on
-abbrev pub top_code : ℕ
-top_code = length programs - 1
+-- SCOPE 7.2: the codes are those of the calls, from 1 on. SCOPE 2.6: the first rules have calls 1 to 15
+unfoldable pub top_code : Rules → ℕ
+top_code Rules.First = 15
+top_code Rules.Current = length (programs Rules.Current) - 1
 
 -- SCOPE 5.1, by code; an argument that is not used is 0
-unfoldable pub ceiling_of : ℕ → ℕ
-ceiling_of code = (program_of code).ceiling
+unfoldable pub ceiling_of : Rules → ℕ → ℕ
+ceiling_of rules code = tries_of rules * (program_of rules code).ceiling
 
-unfoldable pub arguments_ok : ℕ → ℕ → ℕ → Bool
-arguments_ok code a b =
-    (leb 1 code && leb code top_code) && (leb a (program_of code).greatest_a && leb b (program_of code).greatest_b)
+unfoldable pub arguments_ok : Rules → ℕ → ℕ → ℕ → Bool
+arguments_ok rules code a b =
+    (leb 1 code && leb code (top_code rules)) && (leb a (program_of rules code).greatest_a && leb b (program_of rules code).greatest_b)

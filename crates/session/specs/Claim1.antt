@@ -2,6 +2,7 @@
 -- its run; a refusal makes no transfer and changes neither the session nor a lent byte.
 use Rattle.std.specs.Prelude.{◌≡◌, Bool, true, false, ◌||◌, cond, List, [], ◌∷◌, ℕ, ◌%◌, ◌≤◌, eqb, length}
 use Rattle.std.proofs.Math.Option.{Option, some, none}
+use Rattle.session.specs.declared.Rules.{Rules}
 use Rattle.session.specs.Bus.{Transfer, Answer, byte, bytes_of, zero_from, number_of, values_of, absent}
 use Rattle.session.specs.Machine.{Session, Outcome, sent, answered, refused, broken, resting, outstanding, ill_formed}
 use Rattle.session.specs.Records.{Record, call, records_of}
@@ -31,11 +32,11 @@ chip_address s = cond (eqb s.code 1) (s.a % 256) s.driver.address
 
 -- what an outcome is: a transfer that the session then has out, an answer 0 to 8 that leaves nothing carried,
 -- or a refusal 9 to 13 or 15 that keeps the session
-pub data Single (s : Session) : Outcome → Type 0 where
-  one_transfer : (t : Transfer) (s' : Session) → OnTheBus t → t.address ≡ chip_address s' → t ≡ outstanding s' → Single s (sent t s')
-  one_answer : (x : Answer) (n : ℕ) (s' : Session) → number_of x ≤ 8 → s' ≡ resting s'.driver → Single s (answered x n s')
-  one_refusal : (x : Answer) → 9 ≤ number_of x → number_of x ≤ 13 → Single s (refused x s)
-  ill_formed_session : Single s (broken s)
+pub data Single (rules : Rules) (s : Session) : Outcome → Type 0 where
+  one_transfer : (t : Transfer) (s' : Session) → OnTheBus t → t.address ≡ chip_address s' → t ≡ outstanding rules s' → Single rules s (sent t s')
+  one_answer : (x : Answer) (n : ℕ) (s' : Session) → number_of x ≤ 8 → s' ≡ resting s'.driver → Single rules s (answered x n s')
+  one_refusal : (x : Answer) → 9 ≤ number_of x → number_of x ≤ 13 → Single rules s (refused x s)
+  ill_formed_session : Single rules s (broken s)
 
 -- the number of a refusal, 0 where an outcome is none
 abbrev pub refusal_number : Outcome → ℕ
@@ -52,13 +53,13 @@ answer_shown (refused x s) = some (number_of x, 0, 0)
 answer_shown (broken s) = some (15, 0, 0)
 
 -- a record of one session: what it gets is fixed, and refused exactly by the table of SCOPE 9.1
-pub record Demand1 (s : Session) (r : Record) : Type 0 where
-  pub single : Single s (step_def s r)
-  pub refused : refusal_number (step_def s r) ≡ first_match (refusals s r)
+pub record Demand1 (rules : Rules) (s : Session) (r : Record) : Type 0 where
+  pub single : Single rules s (step_def rules s r)
+  pub refused : refusal_number (step_def rules s r) ≡ first_match (refusals rules s r)
 
 -- a call that the table does not refuse is answered at once by its rows 5, 6 and the first 1, with no transfer made; else it makes its first transfer
-abbrev pub AtOnce : Session → ℕ → ℕ → ℕ → Type 0
-AtOnce s code a b = first_match (refusals s (call code a b)) ≡ 0 → answer_shown (step_def s (call code a b)) ≡ first_answer (at_once code a b)
+abbrev pub AtOnce : Rules → Session → ℕ → ℕ → ℕ → Type 0
+AtOnce rules s code a b = first_match (refusals rules s (call code a b)) ≡ 0 → answer_shown (step_def rules s (call code a b)) ≡ first_answer (at_once code a b)
 
 -- neither a refusal nor 15
 abbrev pub Accepts : Outcome → Type 0
@@ -73,9 +74,9 @@ pub data Stray (reads f : ℕ) (bs : List ℕ) : Type 0 where
   beside_failure : (f ≡ 0 → ⊥) → (i : ℕ) → (byte i bs ≡ 0 → ⊥) → Stray reads f bs
 
 -- a reply that is refused with answer 12
-pub record Refused12 (s : Session) (f : ℕ) (bs : List ℕ) : Type 0 where
-  pub underway : Underway s
-  pub stray : Stray (outstanding s).reads f bs
+pub record Refused12 (rules : Rules) (s : Session) (f : ℕ) (bs : List ℕ) : Type 0 where
+  pub underway : Underway rules s
+  pub stray : Stray (outstanding rules s).reads f bs
 
 -- a bring-up that ends otherwise than Done leaves no fields, also one that was handed in with some
 abbrev pub LeavesNone : Outcome → Type 0
@@ -101,10 +102,10 @@ completed s h =
 
 -- a slice of records, from any session. 14 for spare bytes; 15 if the session is ill-formed at the start or where a record meets it;
 -- else every record has what it gets
-pub data RunEnds (s : Session) (bytes : List ℕ) : Run → Type 0 where
-  spare_bytes : (length bytes % 8 ≡ 0 → ⊥) → RunEnds s bytes (ended_at_once Answer.SpareBytes s)
-  ill_formed_given : length bytes % 8 ≡ 0 → ill_formed s ≡ true → RunEnds s bytes (ended_at_once Answer.IllFormedSession s)
+pub data RunEnds (rules : Rules) (s : Session) (bytes : List ℕ) : Run → Type 0 where
+  spare_bytes : (length bytes % 8 ≡ 0 → ⊥) → RunEnds rules s bytes (ended_at_once Answer.SpareBytes s)
+  ill_formed_given : length bytes % 8 ≡ 0 → ill_formed rules s ≡ true → RunEnds rules s bytes (ended_at_once Answer.IllFormedSession s)
   ill_formed_met : length bytes % 8 ≡ 0 → (h : List Entry) (r : Record) (rest : List Record) → in_order h (r ∷ rest) ≡ records_of bytes
-      → Genuine s h → ill_formed (session_after s h) ≡ true → RunEnds s bytes (ended_at_once Answer.IllFormedSession s)
-  all_run : length bytes % 8 ≡ 0 → ill_formed s ≡ false → (h : List Entry) → in_order h [] ≡ records_of bytes → Genuine s h
-      → RunEnds s bytes (completed (session_after s h) h)
+      → Genuine rules s h → ill_formed rules (session_after rules s h) ≡ true → RunEnds rules s bytes (ended_at_once Answer.IllFormedSession s)
+  all_run : length bytes % 8 ≡ 0 → ill_formed rules s ≡ false → (h : List Entry) → in_order h [] ≡ records_of bytes → Genuine rules s h
+      → RunEnds rules s bytes (completed (session_after rules s h) h)

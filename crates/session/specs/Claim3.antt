@@ -1,11 +1,13 @@
 -- Demand 3 (SCOPE 1.3): what holds of every list of records that is run from a fresh session. What it says of the calls is read off the bus:
 -- from a call's code, the bytes written, the read length, the replies and their order. Exchanges stand newest first.
 use Rattle.std.specs.Prelude.{◌≡◌, Bool, true, false, ◌||◌, ◌&&◌, cond, List, [], ◌∷◌, ℕ, zero, suc, ◌+◌, ◌*◌, ◌%◌, ◌≤◌, eqb, T, length, get_or}
+use Rattle.session.specs.declared.Rules.{Rules}
 use Rattle.session.specs.Bus.{Driver, Transfer, Answer, byte, bytes_of, Reply, bad, good, failure_in, data_in, Condition, number_of, values_of, absent, with_driver_address, with_driver_budget}
 use Rattle.session.specs.Machine.{fresh_session}
 use Rattle.session.specs.Records.{records_of}
 use Rattle.session.specs.Script.{Raw, Trace, sends, refuses, waits, ends, play}
-use Rattle.session.specs.RustBringUp.{rust}
+use Rattle.session.specs.RustCalls.{get_measurement_timing_budget}
+use Rattle.session.specs.RustBringUp.{method, number}
 use Rattle.session.specs.History.{calls_in, answers_in, replies_in, transfers_in, refused_in, Run, session_after, Genuine, in_order, Exchange, by, Standing, waiting, ended, CallRun, calls_of, is_waiting, waiting_in, transfers_of}
 
 -- the exchanges of a call, newest first, that its laws go by: all of them
@@ -28,8 +30,16 @@ asks reg t = wrote (reg ∷ []) t && eqb t.reads 1
 
 -- CEILING. No call has made more transfers than its ceiling (SCOPE 5.1). The claim's numbers and tests are its own: written down again, not the
 -- machine's.
-unfoldable pub ceiling_in : ℕ → ℕ
-ceiling_in code = get_or (0 ∷ 85688 ∷ 1 ∷ 1 ∷ 10 ∷ 6 ∷ 4 ∷ 10003 ∷ 20011 ∷ 7 ∷ 2 ∷ 2 ∷ 5 ∷ 2 ∷ 1 ∷ 6 ∷ []) code 0
+unfoldable pub most_in : ℕ → ℕ
+most_in code = get_or (0 ∷ 85688 ∷ 1 ∷ 1 ∷ 10 ∷ 6 ∷ 4 ∷ 10003 ∷ 20011 ∷ 7 ∷ 2 ∷ 2 ∷ 5 ∷ 2 ∷ 1 ∷ 6 ∷ []) code 0
+
+-- SCOPE 2.6: how often each of them is made at most, by the rules
+abbrev pub times_in : Rules → ℕ
+times_in Rules.First = 1
+times_in Rules.Current = 1
+
+abbrev pub ceiling_in : Rules → ℕ → ℕ
+ceiling_in rules code = times_in rules * most_in code
 
 -- beyond the demand: the least transfers of a call answered Done
 unfoldable pub floor_in : ℕ → ℕ
@@ -187,7 +197,7 @@ done_value (ends a d) = cond (eqb (number_of a) 0) (byte 0 (values_of a)) 0
 
 -- SCOPE 6: what call 15 would give: the Rust's function of call 15 over these replies
 unfoldable pub value_of_call15 : List Raw → ℕ
-value_of_call15 replies = done_value (play (rust absent 15 0 0) replies)
+value_of_call15 replies = done_value (play (method number absent get_measurement_timing_budget) replies)
 
 abbrev pub budget_of_first : List Exchange → ℕ
 budget_of_first es = value_of_call15 (first_budget_replies es)
@@ -228,17 +238,17 @@ All P [] = Unit {0}
 All P (c ∷ cs) = P c × All P cs
 
 -- what the demand says of one call
-pub record Lawful (c : CallRun) : Type 0 where
-  pub ceiling : transfers_of c ≤ ceiling_in c.code
+pub record Lawful (rules : Rules) (c : CallRun) : Type 0 where
+  pub ceiling : transfers_of c ≤ ceiling_in rules c.code
   pub timeout : TimeoutRule c
   pub failure : FailureRule c
 
 -- SCOPE 1.3, of a run from a fresh session
-pub record Demand3 (run : Run) : Type 0 where
+pub record Demand3 (rules : Rules) (run : Run) : Type 0 where
   -- sum: transfers = accepted replies + waiting calls
   pub sum : transfers_in run.history ≡ replies_in run.history + waiting_in (calls_of run.history)
   -- ceiling, timeout, failure: of each call
-  pub calls : All Lawful (calls_of run.history)
+  pub calls : All (Lawful rules) (calls_of run.history)
   -- fields
   pub up : run.session.driver.up ≡ is_up (calls_of run.history)
   pub fields : run.session.driver ≡ driver_of (calls_of run.history)
@@ -268,14 +278,14 @@ of_waiting f [] = 0
 of_waiting f (c ∷ cs) = cond (eqb (is_waiting c.standing) 1) (f c) 0
 
 -- what ties the run to its list, and more of its history and its session
-pub record Beyond3 (bytes : List ℕ) (run : Run) : Type 0 where
+pub record Beyond3 (rules : Rules) (bytes : List ℕ) (run : Run) : Type 0 where
   -- the run goes through all records and never meets 15; spare bytes are 14
   pub answer : run.answer ≡ cond (eqb (length bytes % 8) 0) (Answer.Done 0) Answer.SpareBytes
   pub records : in_order run.history [] ≡ cond (eqb (length bytes % 8) 0) (records_of bytes) []
   pub eights : length bytes % 8 ≡ 0 → length bytes ≡ 8 * length run.history
   -- each record has what the definitions of demands 1 and 2 give it, and the session is the one that the last record left
-  pub genuine : Genuine fresh_session run.history
-  pub session : run.session ≡ session_after fresh_session run.history
+  pub genuine : Genuine rules fresh_session run.history
+  pub session : run.session ≡ session_after rules fresh_session run.history
   -- SCOPE 8.1: the five counts are counts over the history, and records = calls + replies + refused
   pub tallied : run.counts
       ≡ record {
@@ -302,9 +312,9 @@ pub record Beyond3 (bytes : List ℕ) (run : Run) : Type 0 where
   pub transfers : run.session.transfers ≡ of_waiting transfers_of (calls_of run.history)
 
 -- the demand of the run of a list, with what is beyond it
-pub record Both3 (bytes : List ℕ) (run : Run) : Type 0 where
-  pub demand : Demand3 run
-  pub beyond : Beyond3 bytes run
+pub record Both3 (rules : Rules) (bytes : List ℕ) (run : Run) : Type 0 where
+  pub demand : Demand3 rules run
+  pub beyond : Beyond3 rules bytes run
 
 -- in other words: the last n exchanges of a call are there, and each is an idle read of the wait
 abbrev pub LastIdle : ℕ → Condition → ℕ → List Exchange → Type 0
@@ -312,6 +322,6 @@ LastIdle zero x code es = Unit {0}
 LastIdle (suc n) x code [] = ⊥
 LastIdle (suc n) x code (e ∷ es) = T (read_of x code e.sent es && idle_reply x e.reply) × LastIdle n x code es
 
--- a bring-up that is answered Done has made 149 to 85,688 transfers
-abbrev pub BringUpCount : CallRun → Type 0
-BringUpCount c = c.code ≡ 1 → is_done c.standing ≡ true → (149 ≤ transfers_of c) × (transfers_of c ≤ 85688)
+-- a bring-up that is answered Done has made 149 to 85,688 transfers, each once
+abbrev pub BringUpCount : Rules → CallRun → Type 0
+BringUpCount rules c = c.code ≡ 1 → is_done c.standing ≡ true → (149 ≤ transfers_of c) × (transfers_of c ≤ times_in rules * 85688)

@@ -1,15 +1,16 @@
 -- What one record gives a session, the run over a list of records, its history and counts, and the calls of a history with their exchanges.
 -- SCOPE 8. Lists of the history stand newest first.
 use Rattle.std.specs.Prelude.{cond, false, List, [], ◌∷◌, ℕ, ◌+◌, length, ◌≡◌}
+use Rattle.session.specs.declared.Rules.{Rules}
 use Rattle.session.specs.Bus.{Transfer, Answer, Reply}
 use Rattle.session.specs.Machine.{Session, Outcome, sent, answered, refused, broken, to_reply, ill_formed, reply_def, begin_def, other_def}
 use Rattle.session.specs.Records.{Record, call, reply, other, records_of, is_whole}
 
 -- one record meets one session
-unfoldable pub step_def : Session → Record → Outcome
-step_def s (call code a b) = begin_def s code a b
-step_def s (reply f bs) = reply_def s f bs
-step_def s other = other_def s
+unfoldable pub step_def : Rules → Session → Record → Outcome
+step_def rules s (call code a b) = begin_def rules s code a b
+step_def rules s (reply f bs) = reply_def rules s f bs
+step_def rules s other = other_def rules s
 
 -- SCOPE 8.3: the history is the records in order, each with what it got: one transfer, its call's answer, or a refusal.
 -- An answer stands with the transfers that its call made
@@ -103,17 +104,17 @@ taking (refused x s) given h r k = k s (record { what = r; got = refusal x } ∷
 taking (broken s) given h r k = stopped Answer.IllFormedSession given
 
 -- SCOPE 8.1: each record meets the session that the one before it left. SCOPE 8.2: 15 met anywhere gives back the session given to the run
-unfoldable pub run_from : Session → List Record → Session → List Entry → Run
-run_from given [] s h = record { answer = Answer.Done 0; session = s; counts = counts_of h; history = h }
-run_from given (r ∷ rs) s h = taking (step_def s r) given h r (run_from given rs)
+unfoldable pub run_from : Rules → Session → List Record → Session → List Entry → Run
+run_from rules given [] s h = record { answer = Answer.Done 0; session = s; counts = counts_of h; history = h }
+run_from rules given (r ∷ rs) s h = taking (step_def rules s r) given h r (run_from rules given rs)
 
 -- the session is looked at before any record, so also where the list is empty
-unfoldable pub run_records : Session → List Record → Run
-run_records s rs = cond (ill_formed s) (stopped Answer.IllFormedSession s) (run_from s rs s [])
+unfoldable pub run_records : Rules → Session → List Record → Run
+run_records rules s rs = cond (ill_formed rules s) (stopped Answer.IllFormedSession s) (run_from rules s rs s [])
 
 -- the list run: 14, 15, then record by record
-unfoldable pub run_def : Session → List ℕ → Run
-run_def s bytes = cond (is_whole bytes) (run_records s (records_of bytes)) (stopped Answer.SpareBytes s)
+unfoldable pub run_def : Rules → Session → List ℕ → Run
+run_def rules s bytes = cond (is_whole bytes) (run_records rules s (records_of bytes)) (stopped Answer.SpareBytes s)
 
 -- what an outcome shows, and the session that it leaves
 abbrev pub got_of : Outcome → Got
@@ -129,15 +130,15 @@ session_of (refused x s) = s
 session_of (broken s) = s
 
 -- the session that the records of a history leave, from a session given
-abbrev pub session_after : Session → List Entry → Session
-session_after given [] = given
-session_after given (e ∷ h) = session_of (step_def (session_after given h) e.what)
+abbrev pub session_after : Rules → Session → List Entry → Session
+session_after rules given [] = given
+session_after rules given (e ∷ h) = session_of (step_def rules (session_after rules given h) e.what)
 
 -- each record met a session that is not ill-formed, and has what that session gives it
-abbrev pub Genuine : Session → List Entry → Type 0
-Genuine given [] = Unit {0}
-Genuine given (e ∷ h) =
-    (ill_formed (session_after given h) ≡ false) × (e.got ≡ got_of (step_def (session_after given h) e.what)) × Genuine given h
+abbrev pub Genuine : Rules → Session → List Entry → Type 0
+Genuine rules given [] = Unit {0}
+Genuine rules given (e ∷ h) =
+    (ill_formed rules (session_after rules given h) ≡ false) × (e.got ≡ got_of (step_def rules (session_after rules given h) e.what)) × Genuine rules given h
 
 -- the records of a history, oldest first, before others
 abbrev pub in_order : List Entry → List Record → List Record

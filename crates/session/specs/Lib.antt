@@ -16,8 +16,9 @@ pub mod History
 pub mod Claim1
 pub mod Claim2
 pub mod Claim3
--- Then the machine, which the code meets and the demands pin down: instructions, their meaning, the calls as lists of them, what a call and a reply
--- do to a session, and that as the code returns it
+-- Then the machine, which the code meets and the demands pin down: what the rules change in it, instructions, their meaning, the calls as lists of
+-- them, what a call and a reply do to a session, and that as the code returns it
+pub mod Rules
 pub mod Instructions
 pub mod Steps
 pub mod Calls

@@ -2,6 +2,7 @@
 use Rattle.std.specs.Prelude.{Bool, true, false, not, ◌||◌, ◌&&◌, cond, List, [], ◌∷◌, ℕ, zero, suc, ◌+◌, ◌%◌, eqb, ltb, leb, length, drop, replicate}
 pub use Rattle.session.specs.declared.Session.{Session}
 use Rattle.session.specs.Bus.{Driver, Transfer, transfer_of, Answer, Reply, bad, good, Condition, wait_limit, idle_on, absent}
+use Rattle.session.specs.declared.Rules.{Rules}
 use Rattle.session.specs.Instructions.{Context, stop_answer, Verdict, onward, leap, stop, test, Op, write, read, wait, range, Final, success, failure, send_of, kept_bytes, kept_failure, kept_budget, read_wins, report_of}
 use Rattle.session.specs.Steps.{slot}
 use Rattle.session.specs.Calls.{Program, ops_of, program_of, ceiling_of, arguments_ok}
@@ -160,8 +161,8 @@ abbrev pub first_transfer_out : List Op → Context → Transfer
 first_transfer_out [] c = transfer_of 0 [] 0
 first_transfer_out (op ∷ ops) c = send_of op c
 
-abbrev pub outstanding : Session → Transfer
-outstanding s = first_transfer_out (drop s.step (ops_of (program_of s.code))) (context_of s)
+abbrev pub outstanding : Rules → Session → Transfer
+outstanding rules s = first_transfer_out (drop s.step (ops_of (program_of rules s.code))) (context_of s)
 
 -- SCOPE 9.2, answer 15 while a call waits: code or arguments that 13 would refuse, call 1 marked up or another not up, a step that is not the
 -- call's, idle reads at or over the wait's limit or not 0 outside a wait, transfers 0 or over the ceiling
@@ -175,26 +176,26 @@ idle_wrong code (range reg len slot over ∷ ops) i = not (eqb i 0)
 abbrev pub up_wrong : ℕ → Bool → Bool
 up_wrong code up = cond (eqb code 1) up (not up)
 
-unfoldable pub malformed : Session → Bool
-malformed s =
-    not (arguments_ok s.code s.a s.b)
+unfoldable pub malformed : Rules → Session → Bool
+malformed rules s =
+    not (arguments_ok rules s.code s.a s.b)
     || up_wrong s.code s.driver.up
-    || idle_wrong s.code (drop s.step (ops_of (program_of s.code))) s.idle
+    || idle_wrong s.code (drop s.step (ops_of (program_of rules s.code))) s.idle
     || eqb s.transfers 0
-    || ltb (ceiling_of s.code) s.transfers
+    || ltb (ceiling_of rules s.code) s.transfers
 
 abbrev pub waits_now : Session → Bool
 waits_now s = not (eqb s.code 0)
 
-abbrev pub ill_formed : Session → Bool
-ill_formed s = waits_now s && malformed s
+abbrev pub ill_formed : Rules → Session → Bool
+ill_formed rules s = waits_now s && malformed rules s
 
 -- a reply: 15, 11, 12, then what the call makes of it
-unfoldable pub reply_def : Session → ℕ → List ℕ → Outcome
-reply_def s f bs =
-    cond (ill_formed s) (broken s)
+unfoldable pub reply_def : Rules → Session → ℕ → List ℕ → Outcome
+reply_def rules s f bs =
+    cond (ill_formed rules s) (broken s)
     (cond (not (waits_now s)) (refused Answer.NoCallWaits s)
-    (on_ops (drop s.step (ops_of (program_of s.code))) (program_of s.code) s f bs))
+    (on_ops (drop s.step (ops_of (program_of rules s.code))) (program_of rules s.code) s f bs))
 
 -- a call as it begins; a bring-up leaves none of the fields
 abbrev pub begun : Session → ℕ → ℕ → ℕ → Session
@@ -204,14 +205,14 @@ abbrev pub not_up : ℕ → Bool → Bool
 not_up code up = cond (eqb code 1) false (not up)
 
 -- a call: 15, 13, 10, 9, then what its arguments decide: 5, 6, 1 or its first transfer
-unfoldable pub begin_def : Session → ℕ → ℕ → ℕ → Outcome
-begin_def s code a b =
-    cond (ill_formed s) (broken s)
-    (cond (not (arguments_ok code a b)) (refused Answer.IllFormedRecord s)
+unfoldable pub begin_def : Rules → Session → ℕ → ℕ → ℕ → Outcome
+begin_def rules s code a b =
+    cond (ill_formed rules s) (broken s)
+    (cond (not (arguments_ok rules code a b)) (refused Answer.IllFormedRecord s)
     (cond (waits_now s) (refused Answer.CallWaits s)
     (cond (not_up code s.driver.up) (refused Answer.NotUp s)
-    (decide ((program_of code).entry (context_of (begun s code a b))) (program_of code) (length (program_of code).steps) 0 (begun s code a b)))))
+    (decide ((program_of rules code).entry (context_of (begun s code a b))) (program_of rules code) (length (program_of rules code).steps) 0 (begun s code a b)))))
 
 -- a record of no kind: 15, 13
-unfoldable pub other_def : Session → Outcome
-other_def s = cond (ill_formed s) (broken s) (refused Answer.IllFormedRecord s)
+unfoldable pub other_def : Rules → Session → Outcome
+other_def rules s = cond (ill_formed rules s) (broken s) (refused Answer.IllFormedRecord s)

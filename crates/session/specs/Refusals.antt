@@ -1,10 +1,11 @@
 -- The refusals of SCOPE 9.1 and SCOPE 9.2, in plain numbers: conditions with their answers, and the first that holds decides.
 -- Its ranges, limits, lengths and ceilings are written down again here: with the machine it shares only what a session and a record are.
-use Rattle.std.specs.Prelude.{◌≡◌, Bool, true, false, not, ◌||◌, ◌&&◌, cond, List, [], ◌∷◌, ◌++◌, ℕ, eqb, ltb, leb}
+use Rattle.std.specs.Prelude.{◌≡◌, Bool, true, false, not, ◌||◌, ◌&&◌, cond, List, [], ◌∷◌, ◌++◌, ℕ, ◌*◌, eqb, ltb, leb}
 use Rattle.std.proofs.Math.Option.{Option, some, none}
 use Rattle.std.specs.Float.{binary32}
 use Rattle.std.specs.Float.Ieee.{round, of_bits, le}
 use Rattle.session.specs.Bus.{zero_from, clean_from}
+use Rattle.session.specs.declared.Rules.{Rules}
 use Rattle.session.specs.declared.Session.{Session}
 use Rattle.session.specs.Records.{Record, call, reply, other}
 
@@ -42,6 +43,15 @@ call_rows =
     ∷ row 15 0 0 6 6 [] ((1, 2) ∷ (2, 2) ∷ [])
     ∷ []
 
+-- SCOPE 2.6: the calls that the rules have, and how often each of their transfers is made at most
+abbrev pub rows_under : Rules → List Row
+rows_under Rules.First = call_rows
+rows_under Rules.Current = call_rows
+
+abbrev pub times_under : Rules → ℕ
+times_under Rules.First = 1
+times_under Rules.Current = 1
+
 -- SCOPE 5.1; a code without a row is no call's
 abbrev pub in_range : ℕ → ℕ → ℕ → List Row → Bool
 in_range code a b [] = false
@@ -73,32 +83,32 @@ abbrev pub idle_bad : ℕ → ℕ → Bool
 idle_bad limit idle = cond (eqb limit 0) (not (eqb idle 0)) (leb limit idle)
 
 -- the session itself, while a call waits
-abbrev pub of_session : Session → List (Bool × ℕ)
-of_session s =
-    (busy s && not (in_range s.code s.a s.b call_rows), 15)
+abbrev pub of_session : Rules → Session → List (Bool × ℕ)
+of_session rules s =
+    (busy s && not (in_range s.code s.a s.b (rows_under rules)), 15)
     ∷ (busy s && (eqb s.code 1 && s.driver.up), 15)
     ∷ (busy s && (not (eqb s.code 1) && not s.driver.up), 15)
-    ∷ (busy s && leb (row_of s.code call_rows).steps s.step, 15)
-    ∷ (busy s && idle_bad (limit_at (row_of s.code call_rows) s.step) s.idle, 15)
+    ∷ (busy s && leb (row_of s.code (rows_under rules)).steps s.step, 15)
+    ∷ (busy s && idle_bad (limit_at (row_of s.code (rows_under rules)) s.step) s.idle, 15)
     ∷ (busy s && eqb s.transfers 0, 15)
-    ∷ (busy s && ltb (row_of s.code call_rows).ceiling s.transfers, 15)
+    ∷ (busy s && ltb (times_under rules * (row_of s.code (rows_under rules)).ceiling) s.transfers, 15)
     ∷ []
 
 -- what the record itself meets
-abbrev pub for_record : Session → Record → List (Bool × ℕ)
-for_record s (call code a b) =
-    (not (in_range code a b call_rows), 13)
+abbrev pub for_record : Rules → Session → Record → List (Bool × ℕ)
+for_record rules s (call code a b) =
+    (not (in_range code a b (rows_under rules)), 13)
     ∷ (busy s, 10)
     ∷ (not (eqb code 1) && not s.driver.up, 9)
     ∷ []
-for_record s (reply f bs) =
+for_record rules s (reply f bs) =
     (not (busy s), 11)
-    ∷ (not (zero_from (clean_from f (length_at (row_of s.code call_rows) s.step)) bs), 12)
+    ∷ (not (zero_from (clean_from f (length_at (row_of s.code (rows_under rules)) s.step)) bs), 12)
     ∷ []
-for_record s other = (true, 13) ∷ []
+for_record rules s other = (true, 13) ∷ []
 
-abbrev pub refusals : Session → Record → List (Bool × ℕ)
-refusals s r = of_session s ++ for_record s r
+abbrev pub refusals : Rules → Session → Record → List (Bool × ℕ)
+refusals rules s r = of_session rules s ++ for_record rules s r
 
 -- 0 where no condition holds: the record is accepted
 abbrev pub first_match : List (Bool × ℕ) → ℕ
@@ -106,9 +116,9 @@ first_match [] = 0
 first_match (x ∷ xs) = cond x.0 x.1 (first_match xs)
 
 -- a call waits, and nothing in the table is against its session: a reply is judged by its own bytes
-pub record Underway (s : Session) : Type 0 where
+pub record Underway (rules : Rules) (s : Session) : Type 0 where
   pub waiting : busy s ≡ true
-  pub sound : first_match (of_session s) ≡ 0
+  pub sound : first_match (of_session rules s) ≡ 0
 
 -- SCOPE 9.3: 5, 6 and the first 1 are answers of an accepted call that makes no transfer: condition, answer, value
 abbrev pub at_once : ℕ → ℕ → ℕ → List (Bool × ℕ × ℕ)

@@ -1,6 +1,7 @@
 -- The bring-up of lib.rs, and what a call of each code is in it.
 use Rattle.std.specs.Prelude.{Bool, true, false, List, [], ◌∷◌, ℕ, ◌+◌, ◌*◌, ◌%◌, eqb, get_or}
 use Rattle.spad.specs.Loop.{enable_spads}
+use Rattle.session.specs.declared.Rules.{Rules}
 use Rattle.session.specs.Bus.{Driver, Answer, byte, absent}
 use Rattle.session.specs.Script.{Script, done}
 use Rattle.session.specs.Registers.{SYSRANGE_START, VHV_CONFIG_PAD_SCL_SDA_EXTSUP_HV, MSRC_CONFIG_CONTROL, SYSTEM_SEQUENCE_CONFIG, GLOBAL_CONFIG_SPAD_ENABLES_REF_0, DYNAMIC_SPAD_REF_EN_START_OFFSET, DYNAMIC_SPAD_NUM_REQUESTED_REF_SPAD, GLOBAL_CONFIG_REF_EN_START_SELECT, RESULT_INTERRUPT_STATUS}
@@ -147,17 +148,17 @@ calibration = do
   Ok tt
 
 -- init_hardware from its first budget read on
-abbrev pub budget_and_calibration : Fn Unit
-budget_and_calibration = do
+abbrev pub budget_and_calibration : Rules → Fn Unit
+budget_and_calibration rules = do
   mtbm ← get_measurement_timing_budget
   set_self_budget mtbm
   write_byte SYSTEM_SEQUENCE_CONFIG 0xE8
-  set_measurement_timing_budget mtbm
+  set_measurement_timing_budget rules mtbm
   calibration
 
 -- lib.rs 399, init_hardware: `power_on` does nothing, and `io_mode2v8` is always true. 0x3E800000 is 0.25
-abbrev pub init_hardware : Fn Unit
-init_hardware = do
+abbrev pub init_hardware : Rules → Fn Unit
+init_hardware rules = do
   ext_sup_hv ← read_register VHV_CONFIG_PAD_SCL_SDA_EXTSUP_HV
   write_byte VHV_CONFIG_PAD_SCL_SDA_EXTSUP_HV (or_u8 ext_sup_hv 0x01)
   write_byte 0x88 0x00
@@ -183,13 +184,13 @@ init_hardware = do
   write_6bytes GLOBAL_CONFIG_SPAD_ENABLES_REF_0 (enable_ref_spads spad.0 spad.1 ref_spad_map)
   load_tuning_settings
   set_gpio_config 0 0
-  budget_and_calibration
+  budget_and_calibration rules
 
 -- lib.rs 59: with_address
-abbrev pub with_address : Fn Unit
-with_address = do
+abbrev pub with_address : Rules → Fn Unit
+with_address rules = do
   wai ← who_am_i
-  if (eqb wai 0xEE) init_hardware (Err (Answer.InvalidDevice wai))
+  if (eqb wai 0xEE) (init_hardware rules) (Err (Answer.InvalidDevice wai))
 
 -- a method of a driver that is there: its fields go in, and come out as the method leaves them
 abbrev pub chip_of : Driver → Chip
@@ -209,8 +210,8 @@ abbrev pub constructor : ℕ → Fn Unit → Script
 constructor address m = constructed (record { address = address; stop_variable = 0; measurement_timing_budget_microseconds = 0 }) m
 
 -- lib.rs: new, with DEFAULT_ADDRESS
-abbrev pub new : Script
-new = constructor 0x29 with_address
+abbrev pub new : Rules → Script
+new rules = constructor 0x29 (with_address rules)
 
 -- SCOPE 5.1: Done's value is the Rust's number, low × 65536 + high for two of them, and 0 for none. `Ok(true)` is Done, `Ok(false)` answer 1
 abbrev pub number : ℕ → Answer
@@ -237,10 +238,10 @@ as_u8 a = a % 256
 abbrev pub as_u16 : ℕ → ℕ
 as_u16 a = a % 65536
 
-unfoldable pub calls : List Call
-calls =
+unfoldable pub calls : Rules → List Call
+calls rules =
     (λ d a b. done Answer.False d)
-    ∷ (λ d a b. constructor (as_u8 a) with_address)
+    ∷ (λ d a b. constructor (as_u8 a) (with_address rules))
     ∷ (λ d a b. method number d who_am_i)
     ∷ (λ d a b. method unit d (set_address (as_u8 a)))
     ∷ (λ d a b. method unit d (start_continuous a))
@@ -248,7 +249,7 @@ calls =
     ∷ (λ d a b. method number d read_range_mm)
     ∷ (λ d a b. method number d read_range_continuous_millimeters_blocking)
     ∷ (λ d a b. method number d read_range_single_millimeters_blocking)
-    ∷ (λ d a b. method flag d (set_measurement_timing_budget a))
+    ∷ (λ d a b. method flag d (set_measurement_timing_budget rules a))
     ∷ (λ d a b. method unit d (set_interrupt_thresholds_mm (as_u16 a) b))
     ∷ (λ d a b. method pair d get_interrupt_thresholds_mm)
     ∷ (λ d a b. method unit d (set_gpio_config a b))
@@ -257,5 +258,5 @@ calls =
     ∷ (λ d a b. method number d get_measurement_timing_budget)
     ∷ []
 
-unfoldable pub rust : Driver → ℕ → ℕ → ℕ → Script
-rust d code a b = get_or calls code (λ d' a' b'. done Answer.False d') d a b
+unfoldable pub rust : Rules → Driver → ℕ → ℕ → ℕ → Script
+rust rules d code a b = get_or (calls rules) code (λ d' a' b'. done Answer.False d') d a b

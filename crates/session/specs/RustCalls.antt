@@ -2,6 +2,7 @@
 -- a read and `decode_vcsel_period`.
 use Rattle.std.specs.Prelude.{Bool, true, false, not, ◌||◌, cond, [], ◌∷◌, ℕ, ◌+◌, ◌*◌, ◌-◌, ◌%◌, ◌/◌, ◌^◌, eqb, ltb, get_or}
 use Rattle.std.specs.Int.Bits.{bit_and}
+use Rattle.session.specs.declared.Rules.{Rules}
 use Rattle.session.specs.Bus.{Answer}
 use Rattle.session.specs.Registers.{SYSRANGE_START, WHO_AM_I, SYSTEM_SEQUENCE_CONFIG, FINAL_RANGE_CONFIG_MIN_COUNT_RATE_RTN_LIMIT, SYSTEM_INTERRUPT_CONFIG_GPIO, GPIO_HV_MUX_ACTIVE_HIGH, SYSTEM_INTERRUPT_CLEAR, RESULT_INTERRUPT_STATUS, RESULT_RANGE_STATUS_plus_10, OSC_CALIBRATE_VAL, SYSTEM_INTERMEASUREMENT_PERIOD, FINAL_RANGE_CONFIG_VCSEL_PERIOD, PRE_RANGE_CONFIG_VCSEL_PERIOD, PRE_RANGE_CONFIG_TIMEOUT_MACROP_HI, FINAL_RANGE_CONFIG_TIMEOUT_MACROP_HI, MSRC_CONFIG_TIMEOUT_MACROP, I2C_SLAVE_DEVICE_ADDRESS, SYSTEM_THRESH_HIGH, SYSTEM_THRESH_LOW}
 use Rattle.session.specs.RustFn.{Result, ok, err, Fn, ◌>>=◌, ◌>>◌, Ok, Err, try, hand, if, self, set_self_address, set_self_budget, com_write, read_register, read_16bit, write_byte, write_16bit, write_32bit, while_idle}
@@ -180,13 +181,18 @@ budget_microseconds enables timeouts =
     let b₃ = cond enables.pre_range (b₂ + (timeouts.pre_range_microseconds + 660)) b₂ in
     cond enables.final_range (b₃ + (timeouts.final_range_microseconds + 550)) b₃
 
--- and of set_measurement_timing_budget
-unfoldable pub use_budget_microseconds : Enables → Timeouts → ℕ
-use_budget_microseconds enables timeouts =
+-- `2 * timeouts.msrc_dss_tcc_microseconds + dss_overhead`. SCOPE 2.6: what is counted here goes by the rules
+abbrev pub dss_microseconds : Rules → ℕ → ℕ
+dss_microseconds Rules.First msrc = 2 * msrc + 690
+dss_microseconds Rules.Current msrc = 2 * msrc + 690
+
+-- and the sum of set_measurement_timing_budget
+unfoldable pub use_budget_microseconds : Rules → Enables → Timeouts → ℕ
+use_budget_microseconds rules enables timeouts =
     let b₀ = 1320 + 960 in
     let b₁ = cond enables.tcc (b₀ + (timeouts.msrc_dss_tcc_microseconds + 590)) b₀ in
     let b₂ =
-    cond enables.dss (b₁ + (2 * timeouts.msrc_dss_tcc_microseconds + 690))
+    cond enables.dss (b₁ + dss_microseconds rules timeouts.msrc_dss_tcc_microseconds)
     (cond enables.msrc (b₁ + (timeouts.msrc_dss_tcc_microseconds + 660)) b₁)
     in
     let b₃ = cond enables.pre_range (b₂ + (timeouts.pre_range_microseconds + 660)) b₂ in
@@ -200,25 +206,25 @@ get_measurement_timing_budget = do
   Ok (budget_microseconds enables timeouts)
 
 -- lib.rs 732, set_measurement_timing_budget after its first test: the final range timeout is computed and written whether or not final range is on
-abbrev pub set_budget_from_reads : ℕ → Fn Bool
-set_budget_from_reads budget_microseconds = do
+abbrev pub set_budget_from_reads : Rules → ℕ → Fn Bool
+set_budget_from_reads rules budget_microseconds = do
   enables ← get_sequence_step_enables
   timeouts ← get_sequence_step_timeouts enables
-  if (ltb budget_microseconds (use_budget_microseconds enables timeouts))
+  if (ltb budget_microseconds (use_budget_microseconds rules enables timeouts))
       (Ok false)
       (do
         clocks ←
             timeout_microseconds_to_mclks
-            (budget_microseconds - use_budget_microseconds enables timeouts)
+            (budget_microseconds - use_budget_microseconds rules enables timeouts)
             timeouts.final_range_vcsel_period_pclks
         final_range_timeout_mclks ← add_if enables.pre_range (clocks % 65536) timeouts.pre_range_mclks
         write_16bit FINAL_RANGE_CONFIG_TIMEOUT_MACROP_HI (encode_timeout final_range_timeout_mclks)
         set_self_budget budget_microseconds
         Ok true)
 
-unfoldable pub set_measurement_timing_budget : ℕ → Fn Bool
-set_measurement_timing_budget budget_microseconds =
-    if (ltb budget_microseconds 20000) (Ok false) (set_budget_from_reads budget_microseconds)
+unfoldable pub set_measurement_timing_budget : Rules → ℕ → Fn Bool
+set_measurement_timing_budget rules budget_microseconds =
+    if (ltb budget_microseconds 20000) (Ok false) (set_budget_from_reads rules budget_microseconds)
 
 -- lib.rs 827: set_interrupt_thresholds_mm
 abbrev pub set_interrupt_thresholds_mm : ℕ → ℕ → Fn Unit

@@ -8,6 +8,7 @@ use Rattle.timing.specs.Places.{first_place}
 use Rattle.budget.specs.declared.DssTerm.{DssTerm}
 use Rattle.budget.specs.declared.NoWord.{NoWord}
 use Rattle.budget.specs.Budget.{too_short, set_budget}
+use Rattle.session.specs.declared.Rules.{Rules}
 use Rattle.session.specs.Bus.{Driver, Transfer, Answer, byte, transfer_of, with_driver_budget}
 use Rattle.session.specs.Records.{call}
 use Rattle.session.specs.Machine.{Session}
@@ -61,17 +62,22 @@ by_result d budget (Ok w) =
 by_result d budget (Err NoWord.NoTime) = ends Answer.False d
 by_result d budget (Err (NoWord.Panic p)) = ends (Answer.Panic (place_number p)) d
 
--- the trace of call 9. SCOPE 5.4: it counts DSS as 2 × MSRC's time + 690
-unfoldable pub trace_of_call9 : Driver → ℕ → List ℕ → Trace
-trace_of_call9 d budget bytes =
+-- SCOPE 5.4: call 9 counts DSS as 2 × MSRC's time + 690. SCOPE 2.6: by the rules
+abbrev pub dss_counted : Rules → DssTerm
+dss_counted Rules.First = DssTerm.Once
+dss_counted Rules.Current = DssTerm.Once
+
+-- the trace of call 9
+unfoldable pub trace_of_call9 : Rules → Driver → ℕ → List ℕ → Trace
+trace_of_call9 rules d budget bytes =
     sends_all (take (reads_made (registers_of bytes) budget) (read_transfers d.address))
-    (by_result d budget (set_budget (registers_of bytes) (record { 0 = budget }) DssTerm.Once))
+    (by_result d budget (set_budget (registers_of bytes) (record { 0 = budget }) (dss_counted rules)))
 
 -- lib.rs's function has this trace, whatever the fields, the budget and the bytes
-abbrev pub RustSetsBudget : Driver → ℕ → List ℕ → ℕ → Type 0
-RustSetsBudget d budget bytes ignored = play (rust d 9 budget 0) (good_replies bytes ignored) ≡ trace_of_call9 d budget bytes
+abbrev pub RustSetsBudget : Rules → Driver → ℕ → List ℕ → ℕ → Type 0
+RustSetsBudget rules d budget bytes ignored = play (rust rules d 9 budget 0) (good_replies bytes ignored) ≡ trace_of_call9 rules d budget bytes
 
 -- and so has every session that accepts the call
-abbrev pub SessionSetsBudget : Session → ℕ → List ℕ → ℕ → Type 0
-SessionSetsBudget s budget bytes ignored =
-    Accepted s 9 budget 0 → drive (good_replies bytes ignored) (step_def s (call 9 budget 0)) ≡ trace_of_call9 s.driver budget bytes
+abbrev pub SessionSetsBudget : Rules → Session → ℕ → List ℕ → ℕ → Type 0
+SessionSetsBudget rules s budget bytes ignored =
+    Accepted rules s 9 budget 0 → drive rules (good_replies bytes ignored) (step_def rules s (call 9 budget 0)) ≡ trace_of_call9 rules s.driver budget bytes

@@ -64,17 +64,14 @@ word_in x = result_unwrap_or x 0
 abbrev pub rate_in : Option ℕ → ℕ
 rate_in x = unwrap_or x 0
 
--- SCOPE 5.4: call 9 counts 2 × MSRC + 690
-abbrev pub dss_of_call9 : DssTerm
-dss_of_call9 = DssTerm.Once
-
 -- the budget that is set: a bring-up sets the one that it found, call 9 its argument
 abbrev pub budget_to_set : Setting → Context → ℕ
 budget_to_set Setting.Found c = c.found_budget
 budget_to_set Setting.Asked c = c.a
 
-abbrev pub word_to_set : ℕ → Setting → Context → Result ℕ NoWord
-word_to_set k x c = final_range_word (timing_in k c.carried) (record { 0 = budget_to_set x c }) dss_of_call9
+-- by the instruction's DSS term (SCOPE 5.4)
+abbrev pub word_to_set : ℕ → Setting → DssTerm → Context → Result ℕ NoWord
+word_to_set k x dss c = final_range_word (timing_in k c.carried) (record { 0 = budget_to_set x c }) dss
 
 -- SCOPE 5.2: an answer 1 of the budget step is dropped: a bring-up leaps over the write, call 9 is answered 1
 abbrev pub no_time : Setting → Verdict
@@ -133,8 +130,8 @@ op_of Instruction.WritePolarity = writes 0x84 (λ c. cond (eqb c.b 0) (and_byte 
 op_of Instruction.ReadStatus = read 0x13 1 mask_slot false 0 (λ c. test (eqb (slot mask_slot c % 8) 0) (stop unready) onward)
 op_of (Instruction.ReadTiming n k) = read (timing_register n) (timing_length n) (k + timing_place n) false 0 (λ c. by_place (first_place (timing_in k c.carried) n))
 op_of Instruction.FindBudget = read 0x70 1 (timing_slot + 7) true 0 (λ c. by_place (first_place (timing_in timing_slot c.carried) 6))
-op_of (Instruction.ReadLast k x) = read 0x70 1 (k + 7) false (over_last x) (λ c. by_word (no_time x) (word_to_set k x c))
+op_of (Instruction.ReadLast k x dss) = read 0x70 1 (k + 7) false (over_last x) (λ c. by_word (no_time x) (word_to_set k x dss c))
 op_of Instruction.WriteSteps = write 0x01 (λ c. 0xE8 ∷ []) 1 7 (λ c. test (too_short c.found_budget) leap onward)
-op_of (Instruction.WriteWord k x) = writes 0x71 (λ c. word_bytes (word_in (word_to_set k x c)))
+op_of (Instruction.WriteWord k x dss) = writes 0x71 (λ c. word_bytes (word_in (word_to_set k x dss c)))
 op_of (Instruction.Await x) = wait x
 op_of (Instruction.ReadRange reg n k over) = range reg n k over

@@ -1,6 +1,8 @@
 // The types that definitions and code share.
 #![tactic(auto)]
 
+use budget::DssTerm;
+
 // The codes of two calls that code asks for by name: `with_address` and `read_range_mm`.
 pub const WITH_ADDRESS: u8 = 1;
 
@@ -10,6 +12,14 @@ pub const READ_RANGE_MM: u8 = 6;
 pub const TIMING_SLOT: u8 = 8;
 
 pub const SECOND_SLOT: u8 = 16;
+
+// SCOPE 2.6: the rules as first written, and those that hold today. A parameter of every definition and function that depends on them, and no field of
+// a session: a session is data, and means the same to both.
+#[derive(Clone, Copy, PartialEq, Eq, Debug)]
+pub enum Rules {
+    First,
+    Current,
+}
 
 // lib.rs: the fields of VL53L0x that a call can change. What is known of a sensor that is up: its address, its stop byte and its stored budget in
 // microseconds. All zero while it is not up.
@@ -164,12 +174,12 @@ pub enum Instruction {
     ReadTiming(u8, u8),
     // The sixth of the budget reads from slot 8 on: it finds the budget that they amount to.
     FindBudget,
-    // The sixth of those that are kept from a slot on, before a new final range word is written for a budget.
-    ReadLast(u8, Setting),
+    // The sixth of those that are kept from a slot on, before a new final range word is written for a budget, with DSS counted so often.
+    ReadLast(u8, Setting, DssTerm),
     // Write the sequence steps; skip the setting of a budget that is too short.
     WriteSteps,
     // Write the final range word for the replies that are kept from a slot on.
-    WriteWord(u8, Setting),
+    WriteWord(u8, Setting, DssTerm),
     // One read of a wait.
     Await(Condition),
     // A range read, from a register, of so many bytes into a slot: a failure is kept, and the call goes on over so many instructions.

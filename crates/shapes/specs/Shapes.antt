@@ -1,10 +1,11 @@
 -- What the code needs of an instruction, as plain data: its shape, what is kept of its reply, and what a good reply decides.
 -- Each is read off the session's definition of the instruction, `op_of`.
-use Rattle.std.specs.Prelude.{Bool, true, false, ◌&&◌, cond, List, ℕ, eqb}
+use Rattle.std.specs.Prelude.{Bool, true, false, ◌&&◌, cond, List, ℕ, ◌+◌, eqb}
 use Rattle.session.specs.declared.Session.{Session}
+use Rattle.session.specs.declared.Setting.{Setting}
 use Rattle.session.specs.Bus.{wait_register}
 use Rattle.session.specs.Instructions.{Context, stop_answer, Verdict as Rule, onward, leap, stop, test, Op, write, read, wait, range, timing_slot, budget_in, put, bytes_from}
-use Rattle.session.specs.Steps.{timing_register, timing_length, timing_place}
+use Rattle.session.specs.Steps.{over_last, timing_register, timing_length, timing_place}
 use Rattle.session.specs.Machine.{with_kept}
 use Rattle.shapes.specs.declared.Kind.{Kind}
 use Rattle.shapes.specs.declared.Shape.{Shape}
@@ -19,6 +20,10 @@ reading reg n slot = record { kind = Kind.Read; register = reg; reads = n; slot 
 
 abbrev pub ranging : ℕ → ℕ → ℕ → ℕ → Shape
 ranging reg n slot over = record { kind = Kind.Range; register = reg; reads = n; slot = slot; finds = false; over = over }
+
+-- the last budget read before a word is written, with what is left out where no time is left
+abbrev pub last_reading : ℕ → Setting → Shape
+last_reading k x = record { kind = Kind.Read; register = 0x70; reads = 1; slot = k + 7; finds = false; over = over_last x }
 
 -- SCOPE 5.3: the budget reads by number: register, length and place of each
 unfoldable pub timing_read : ℕ → TimingRead

@@ -2,7 +2,7 @@
 ghost use Rattle.std.specs.Prelude.{◌≡◌, ◌+◌};
 ghost use Rattle.session.specs.Bus.{wait_register};
 ghost use Rattle.session.specs.Steps.{op_of, timing_register, timing_length, timing_place};
-ghost use Rattle.shapes.specs.Shapes.{shape_of, writing, reading, ranging, timing_read};
+ghost use Rattle.shapes.specs.Shapes.{shape_of, writing, reading, last_reading, ranging, timing_read};
 
 use crate::{Kind, Shape};
 use session::{Condition, Instruction, Setting, TIMING_SLOT};
@@ -133,9 +133,8 @@ fn finding() -> Shape
 }
 
 // A bring-up leaves out the write where no time is left for the final range.
-#[tactic(auto, unfolding(crate::specs::Shapes::shape_of))]
 fn last_shape(slot: u8, setting: Setting) -> Shape
-    ensures { result ≡ shape_of (op_of (Instruction.ReadLast slot setting)) }
+    ensures { result ≡ last_reading slot setting }
 {
     let over = match setting {
         Setting::Found => 1,
@@ -190,9 +189,9 @@ pub fn shape_of(i: Instruction) -> Shape
         Instruction::ReadStatus => reading(0x13, 1, 2),
         Instruction::ReadTiming(n, slot) => timing_shape(n, slot),
         Instruction::FindBudget => finding(),
-        Instruction::ReadLast(slot, setting) => last_shape(slot, setting),
+        Instruction::ReadLast(slot, setting, _) => last_shape(slot, setting),
         Instruction::WriteSteps => writing(0x01, 1, 7),
-        Instruction::WriteWord(_, _) => writing(0x71, 1, 0),
+        Instruction::WriteWord(_, _, _) => writing(0x71, 1, 0),
         Instruction::Await(condition) => awaiting(condition),
         Instruction::ReadRange(register, reads, slot, over) => ranging(register, reads, slot, over),
     }

@@ -66,17 +66,15 @@ fn budget_to_set(setting: Setting, s: Session) -> u32
     }
 }
 
-// How often the DSS overhead is counted where a budget is set.
-const SET_DSS: DssTerm = DssTerm::Once;
-
-pub fn word_to_set(slot: u8, setting: Setting, s: Session) -> Result<u16, NoWord>
-    ensures { result ≡ word_to_set slot setting (context_of s) }
+// DSS counts as the instruction says.
+pub fn word_to_set(slot: u8, setting: Setting, dss: DssTerm, s: Session) -> Result<u16, NoWord>
+    ensures { result ≡ word_to_set slot setting dss (context_of s) }
 {
     let carried = s.carried;
     budget::final_range_word(
         timing_in(slot, carried),
         Microseconds(budget_to_set(setting, s)),
-        SET_DSS,
+        dss,
     )
 }
 

@@ -1,5 +1,6 @@
 -- What the Rust did over a list of records, and the run of the definitions read into the same form.
 use Rattle.std.specs.Prelude.{List, [], ◌∷◌, ◌++◌, map, ◌≡◌, ℕ, eqb, get_or}
+use Rattle.session.specs.declared.Rules.{Rules}
 use Rattle.session.specs.Bus.{bytes_of, number_of, values_of}
 use Rattle.session.specs.declared.Session.{Session}
 use Rattle.session.specs.Machine.{resting}
@@ -43,8 +44,9 @@ pub record Seen : Type 0 where
 abbrev pub seen_of : Run → Seen
 seen_of r = record { lines = lines_of r.history []; session = r.session }
 
+-- by the first rules: the traces are of lib.rs as it is
 abbrev pub by_definitions : Trace → Seen
-by_definitions t = seen_of (run_def (holding t.before) (bytes_in t.steps))
+by_definitions t = seen_of (run_def Rules.First (holding t.before) (bytes_in t.steps))
 
 abbrev pub by_rust : Trace → Seen
 by_rust t = record { lines = lines_in t.steps; session = holding t.after }

@@ -170,12 +170,12 @@ pub fn send_of(i: Instruction, s: Session) -> Transfer
         Instruction::WritePolarity => write(address, 0x84, polarity_byte(s.b, s.carried[2])),
         Instruction::ReadStatus => read(address, 0x13, 1),
         Instruction::ReadTiming(n, _) => read_timing(address, n),
-        Instruction::FindBudget | Instruction::ReadLast(_, _) => read(address, 0x70, 1),
+        Instruction::FindBudget | Instruction::ReadLast(_, _, _) => read(address, 0x70, 1),
         Instruction::WriteSteps => write(address, 0x01, 0xE8),
-        Instruction::WriteWord(slot, setting) => write_word(
+        Instruction::WriteWord(slot, setting, dss) => write_word(
             address,
             0x71,
-            word_to_set(slot, setting, s).unwrap_or(0),
+            word_to_set(slot, setting, dss, s).unwrap_or(0),
         ),
         Instruction::Await(condition) => read(address, wait_register(condition), 1),
         Instruction::ReadRange(register, reads, _, _) => read(address, register, reads),

@@ -7,7 +7,7 @@ ghost use Rattle.session.specs.Steps.{op_of, by_place, by_word, no_time};
 ghost use Rattle.shapes.specs.Shapes.{verdict_of, settled};
 ghost use Rattle.verdicts.specs.Verdicts.{identified, prepared, ready, steps_written, timed_verdict};
 
-use budget::NoWord;
+use budget::{DssTerm, NoWord};
 use clock::Place;
 use session::{Answer, Instruction, Session, Setting, TIMING_SLOT};
 use shapes::{Verdict, oscillator_word, timed_period, timing_in, word_to_set};
@@ -99,10 +99,10 @@ fn by_word(setting: Setting, word: Result<u16, NoWord>) -> Verdict
     }
 }
 
-fn last_read(slot: u8, setting: Setting, s: Session) -> Verdict
-    ensures { result ≡ settled (verdict_of (op_of (Instruction.ReadLast slot setting)) (context_of s)) }
+fn last_read(slot: u8, setting: Setting, dss: DssTerm, s: Session) -> Verdict
+    ensures { result ≡ settled (verdict_of (op_of (Instruction.ReadLast slot setting dss)) (context_of s)) }
 {
-    by_word(setting, word_to_set(slot, setting, s))
+    by_word(setting, word_to_set(slot, setting, dss, s))
 }
 
 // A budget that is too short is not set.
@@ -127,7 +127,7 @@ pub fn verdict(i: Instruction, s: Session) -> Verdict
         Instruction::ReadStatus => ready(s.carried[2]),
         Instruction::ReadTiming(n, slot) => timing_read(n, slot, s),
         Instruction::FindBudget => timing_read(6, TIMING_SLOT, s),
-        Instruction::ReadLast(slot, setting) => last_read(slot, setting, s),
+        Instruction::ReadLast(slot, setting, dss) => last_read(slot, setting, dss, s),
         Instruction::WriteSteps => steps_written(s.found_budget),
         Instruction::Nowhere
         | Instruction::Write(_, _)
@@ -147,7 +147,7 @@ pub fn verdict(i: Instruction, s: Session) -> Verdict
         | Instruction::WriteHigh
         | Instruction::WriteFunction
         | Instruction::WritePolarity
-        | Instruction::WriteWord(_, _)
+        | Instruction::WriteWord(_, _, _)
         | Instruction::Await(_)
         | Instruction::ReadRange(_, _, _, _) => Verdict::Onward,
     }

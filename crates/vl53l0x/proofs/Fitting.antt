@@ -15,6 +15,7 @@ use Rattle.timing.specs.Timeouts.{time_in}
 use Rattle.timing.specs.Places.{first_place}
 use Rattle.budget.specs.Budget.{budget_after, measurement_timing_budget}
 use Rattle.budget.proofs.Bounds.{budget_fits}
+use Rattle.session.specs.declared.Rules.{Rules}
 use Rattle.session.specs.declared.Session.{Session}
 use Rattle.session.specs.declared.Driver.{Driver}
 use Rattle.session.specs.declared.Condition.{Condition}
@@ -87,26 +88,26 @@ by_code_fits : (e : ℕ) (f : Final) → FinalFits f → FinalFits (by_code e f)
 by_code_fits zero f h = h
 by_code_fits (suc e) f h = tt
 
-final_fits : (code : ℕ) (s : Session) → Fits s → FinalFits ((program_of code).final (context_of s))
+final_fits : (code : ℕ) (s : Session) → Fits s → FinalFits ((program_of Rules.Current code).final (context_of s))
 unfolding programs
 final_fits code s h =
     let d : (held_by s.code s.driver).budget < 4294967296 = held_small s.code s.driver h.budget in
-    of_table (λ k p. FinalFits (p.final (context_of s))) (λ k. tt) (search (rules, d, h.a, h.found_budget, by_code_fits)) code
+    of_table Rules.Current (λ k p. FinalFits (p.final (context_of s))) (λ k. tt) (search (rules, d, h.a, h.found_budget, by_code_fits)) code
 
 conclude_fits : (f : Final) (s : Session) → Fits s → FinalFits f → FitsAfter (conclude f s)
 conclude_fits (success v d) s h k = resting_fits d k
 conclude_fits (failure e) s h k = gives_fits s h
 
 -- where a call goes on, or ends
-arrive_fits : (s : Session) (k : ℕ) → Fits s → Room s → FitsAfter (arrive (program_of s.code) k s)
+arrive_fits : (s : Session) (k : ℕ) → Fits s → Room s → FitsAfter (arrive (program_of Rules.Current s.code) k s)
 unfolding arrive
-arrive_fits s k h room = go (drop k (ops_of (program_of s.code)))
+arrive_fits s k h room = go (drop k (ops_of (program_of Rules.Current s.code)))
   where
-    go : (l : List Op) → FitsAfter (enter (program_of s.code).final l k s)
-    go [] = conclude_fits ((program_of s.code).final (context_of s)) s h (final_fits s.code s h)
+    go : (l : List Op) → FitsAfter (enter (program_of Rules.Current s.code).final l k s)
+    go [] = conclude_fits ((program_of Rules.Current s.code).final (context_of s)) s h (final_fits s.code s h)
     go (op ∷ rest) = record { budget = h.budget; a = h.a; b = h.b; idle = omega arith; transfers = room; found_budget = h.found_budget; carried = h.carried }
 
-decide_fits : (v : Verdict) (s : Session) (over k : ℕ) → Fits s → Room s → FitsAfter (decide v (program_of s.code) over k s)
+decide_fits : (v : Verdict) (s : Session) (over k : ℕ) → Fits s → Room s → FitsAfter (decide v (program_of Rules.Current s.code) over k s)
 decide_fits onward s over k h room = arrive_fits s k h room
 decide_fits leap s over k h room = arrive_fits s (k + over) h room
 decide_fits (stop x) s over k h room = gives_fits s h
@@ -117,7 +118,7 @@ limit_small code Condition.DetectorReady = omega arith
 limit_small code Condition.StatusReady = omega arith
 limit_small code Condition.Started = omega arith
 
-react_fits : (op : Op) (s : Session) (r : Reply) → Fits s → Room s → FitsAfter (react op (program_of s.code) s r)
+react_fits : (op : Op) (s : Session) (r : Reply) → Fits s → Room s → FitsAfter (react op (program_of Rules.Current s.code) s r)
 react_fits (write reg bytes len over after) s (bad e) h room = gives_fits s h
 react_fits (write reg bytes len over after) s (good bs) h room = decide_fits (after (context_of s)) s over (suc s.step) h room
 react_fits (read reg len slot finds over after) s (bad e) h room = gives_fits s h
@@ -135,45 +136,45 @@ react_fits (range reg len slot over) s (bad e) h room = arrive_fits (kept_of s (
 react_fits (range reg len slot over) s (good bs) h room = arrive_fits (kept_of s (range reg len slot over) (good bs)) (suc s.step) (kept_fits s (range reg len slot over) (good bs) h) room
 
 -- a record of eight bytes
-begin_fits : (s : Session) (code a b : ℕ) → Fits s → a < 4294967296 → b < 65536 → FitsAfter (begin_def s code a b)
+begin_fits : (s : Session) (code a b : ℕ) → Fits s → a < 4294967296 → b < 65536 → FitsAfter (begin_def Rules.Current s code a b)
 unfolding begin_def
 begin_fits s code a b h ha hb =
-    cond_case FitsAfter (ill_formed s) (λ e. h)
-    (λ e. cond_case FitsAfter (not (arguments_ok code a b)) (λ e. h)
+    cond_case FitsAfter (ill_formed Rules.Current s) (λ e. h)
+    (λ e. cond_case FitsAfter (not (arguments_ok Rules.Current code a b)) (λ e. h)
     (λ e. cond_case FitsAfter (waits_now s) (λ e. h)
     (λ e. cond_case FitsAfter (not_up code s.driver.up) (λ e. h)
-    (λ e. decide_fits ((program_of code).entry (context_of (begun s code a b))) (begun s code a b) (length (program_of code).steps) 0 begun_fits (omega arith)))))
+    (λ e. decide_fits ((program_of Rules.Current code).entry (context_of (begun s code a b))) (begun s code a b) (length (program_of Rules.Current code).steps) 0 begun_fits (omega arith)))))
   where
     begun_fits : Fits (begun s code a b)
     begun_fits =
         record { budget = held_small code s.driver h.budget; a = ha; b = hb; idle = omega arith; transfers = omega arith; found_budget = omega arith; carried = refl }
 
-reply_fits : (s : Session) (f : ℕ) (bs : List ℕ) → Fits s → FitsAfter (reply_def s f bs)
+reply_fits : (s : Session) (f : ℕ) (bs : List ℕ) → Fits s → FitsAfter (reply_def Rules.Current s f bs)
 unfolding reply_def
 reply_fits s f bs h =
-    cond_case FitsAfter (ill_formed s) (λ e. h)
-    (λ e. cond_case FitsAfter (not (waits_now s)) (λ n. h) (λ n. go (drop s.step (ops_of (program_of s.code))) (room e n)))
+    cond_case FitsAfter (ill_formed Rules.Current s) (λ e. h)
+    (λ e. cond_case FitsAfter (not (waits_now s)) (λ n. h) (λ n. go (drop s.step (ops_of (program_of Rules.Current s.code))) (room e n)))
   where
-    room : ill_formed s ≡ false → not (waits_now s) ≡ false → Room s
+    room : ill_formed Rules.Current s ≡ false → not (waits_now s) ≡ false → Room s
     room e n = by_test (waits_now s) refl
       where
         by_test : (t : Bool) → waits_now s ≡ t → Room s
-        by_test true w = omega (arith, (well_formed s (rw w at e)).transfers)
+        by_test true w = omega (arith, (well_formed Rules.Current s (rw w at e)).transfers)
         by_test false w = let z : true ≡ false = rw w at n in cc
 
-    go : (l : List Op) → Room s → FitsAfter (on_ops l (program_of s.code) s f bs)
+    go : (l : List Op) → Room s → FitsAfter (on_ops l (program_of Rules.Current s.code) s f bs)
     go [] r = h
     go (op ∷ rest) r = cond_case FitsAfter (stray (send_of op (context_of s)) f bs) (λ e. h) (λ e. react_fits op s (to_reply f bs) h r)
 
-other_fits : (s : Session) → Fits s → FitsAfter (other_def s)
+other_fits : (s : Session) → Fits s → FitsAfter (other_def Rules.Current s)
 unfolding other_def
-other_fits s h = cond_case FitsAfter (ill_formed s) (λ e. h) (λ e. h)
+other_fits s h = cond_case FitsAfter (ill_formed Rules.Current s) (λ e. h) (λ e. h)
 
-pub step_fits : (s : Session) (bytes : List ℕ) → Fits s → are_bytes bytes ≡ true → FitsAfter (step_def s (record_in bytes))
+pub step_fits : (s : Session) (bytes : List ℕ) → Fits s → are_bytes bytes ≡ true → FitsAfter (step_def Rules.Current s (record_in bytes))
 unfolding step_def record_in
 step_fits s bytes h are =
-    cond_case (λ (r : Record). FitsAfter (step_def s r)) (eqb (byte 0 bytes) 1)
+    cond_case (λ (r : Record). FitsAfter (step_def Rules.Current s r)) (eqb (byte 0 bytes) 1)
     (λ e. begin_fits s (byte 1 bytes) _ _ h
     (omega (arith, below bytes 2 are, below bytes 3 are, below bytes 4 are, below bytes 5 are))
     (omega (arith, below bytes 6 are, below bytes 7 are)))
-    (λ e. cond_case (λ (r : Record). FitsAfter (step_def s r)) (eqb (byte 0 bytes) 2) (λ e. reply_fits s (byte 1 bytes) _ h) (λ e. other_fits s h))
+    (λ e. cond_case (λ (r : Record). FitsAfter (step_def Rules.Current s r)) (eqb (byte 0 bytes) 2) (λ e. reply_fits s (byte 1 bytes) _ h) (λ e. other_fits s h))

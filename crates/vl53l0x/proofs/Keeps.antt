@@ -6,6 +6,7 @@ use Prim.Native.Nat.{ℕ, ◌≤◌}
 use native.Mathlib.Omega.{arith}
 use lib.Dec.{eqb}
 use lib.ListN.{length}
+use Rattle.session.specs.declared.Rules.{Rules}
 use Rattle.session.specs.declared.Answer.{Answer}
 use Rattle.session.specs.declared.Session.{Session}
 use Rattle.session.specs.Bus.{byte}
@@ -21,7 +22,7 @@ use Rattle.layout.proofs.RoundTrip.{round_trip}
 use Rattle.vl53l0x.specs.Exports.{met, step_outcome, step_session, RefusalKeeps}
 
 -- what is neither a transfer nor an answer of a call leaves the session
-kept : (s : Session) (o : Result) → Single s o → 9 ≤ byte 0 (outcome_bytes (outcome_of o)) → byte 0 (outcome_bytes (outcome_of o)) ≤ 15 → (outcome_of o).session ≡ s
+kept : (s : Session) (o : Result) → Single Rules.Current s o → 9 ≤ byte 0 (outcome_bytes (outcome_of o)) → byte 0 (outcome_bytes (outcome_of o)) ≤ 15 → (outcome_of o).session ≡ s
 unfolding outcome_of given_bytes transfer_bytes answer_bytes
 kept s _ (one_transfer t s' _ _ _) low high = absurd (omega (arith, high))
 kept s _ (one_answer x n s' most _) low high = absurd (omega (arith, low, most))
@@ -39,11 +40,11 @@ refusal_keeps session bytes outcome are =
     by_tests (is_session session) (λ e. e) (eqb (length bytes) 8) (eqb (length outcome) outcome_size)
   where
     by_tests : (t : Bool) → (t ≡ true → is_session session ≡ true) → (p q : Bool)
-        → 9 ≤ byte 0 (cond p (cond t (outcome_bytes (outcome_of (step_def (session_of session) (record_in bytes)))) (refusal_bytes Answer.IllFormedSession)) (refusal_bytes Answer.SpareBytes))
-        → byte 0 (cond p (cond t (outcome_bytes (outcome_of (step_def (session_of session) (record_in bytes)))) (refusal_bytes Answer.IllFormedSession)) (refusal_bytes Answer.SpareBytes)) ≤ 15
-        → cond q (cond p (cond t (session_bytes (outcome_of (step_def (session_of session) (record_in bytes))).session) session) session) session ≡ session
+        → 9 ≤ byte 0 (cond p (cond t (outcome_bytes (outcome_of (step_def Rules.Current (session_of session) (record_in bytes)))) (refusal_bytes Answer.IllFormedSession)) (refusal_bytes Answer.SpareBytes))
+        → byte 0 (cond p (cond t (outcome_bytes (outcome_of (step_def Rules.Current (session_of session) (record_in bytes)))) (refusal_bytes Answer.IllFormedSession)) (refusal_bytes Answer.SpareBytes)) ≤ 15
+        → cond q (cond p (cond t (session_bytes (outcome_of (step_def Rules.Current (session_of session) (record_in bytes))).session) session) session) session ≡ session
     by_tests true is true true low high =
-        ap session_bytes (kept (session_of session) (step_def (session_of session) (record_in bytes)) (demand_1 (session_of session) (record_in bytes)).single low high)
+        ap session_bytes (kept (session_of session) (step_def Rules.Current (session_of session) (record_in bytes)) (demand_1 Rules.Current (session_of session) (record_in bytes)).single low high)
         ∙ back session are (is refl)
     by_tests true is true false low high = refl
     by_tests true is false true low high = refl

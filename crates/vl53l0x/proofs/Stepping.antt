@@ -6,6 +6,7 @@ use Prim.Native.Nat.{ℕ, ◌+◌, ◌<◌}
 use native.Mathlib.Omega.{arith}
 use lib.Dec.{ltb}
 use lib.ListN.{length, drop, length-drop}
+use Rattle.session.specs.declared.Rules.{Rules}
 use Rattle.session.specs.declared.Session.{Session}
 use Rattle.session.specs.declared.Answer.{Answer}
 use Rattle.session.specs.Bus.{values_of}
@@ -60,7 +61,7 @@ got_is (answered x n s) = refl
 got_is (refused x s) = refl
 got_is (broken s) = refl
 
-all_there : (s : Session) (o : Outcome) → Single s o → length (got_bytes (got_of o)) ≡ outcome_size
+all_there : (s : Session) (o : Outcome) → Single Rules.Current s o → length (got_bytes (got_of o)) ≡ outcome_size
 unfolding transfer_bytes answer_bytes
 all_there s _ (one_transfer t s' bus to is) = simp lib.ListN.length-append (rw bus.room refl)
 all_there s _ (one_answer x n s' most r) = simp lib.ListN.length-append (rw (longs_length most_values (values_of x)) refl)
@@ -80,16 +81,16 @@ module _ (s : Session) (fits : Fits s) (out r : List ℕ) (room : length out ≡
   unfolding session_in
   read = rw (round_trip.is_a_session s fits) at (round_trip.read_back s fits)
 
-  one_session : step_session (session_bytes s) r out ≡ session_bytes (left_by (step_def s (record_in r)))
+  one_session : step_session (session_bytes s) r out ≡ session_bytes (left_by (step_def Rules.Current s (record_in r)))
   unfolding step_session met
-  one_session = rw (room, eight, round_trip.is_a_session s fits, read) (ap session_bytes (left_is (step_def s (record_in r))))
+  one_session = rw (room, eight, round_trip.is_a_session s fits, read) (ap session_bytes (left_is (step_def Rules.Current s (record_in r))))
 
-  one_outcome : step_outcome (session_bytes s) r ≡ got_bytes (got_of (step_def s (record_in r)))
+  one_outcome : step_outcome (session_bytes s) r ≡ got_bytes (got_of (step_def Rules.Current s (record_in r)))
   unfolding step_outcome met
-  one_outcome = rw (eight, round_trip.is_a_session s fits, read) (got_is (step_def s (record_in r)))
+  one_outcome = rw (eight, round_trip.is_a_session s fits, read) (got_is (step_def Rules.Current s (record_in r)))
 
   one_step : stepped (record { session = session_bytes s; outcome = out }) r
-      ≡ record { session = session_bytes (left_by (step_def s (record_in r))); outcome = got_bytes (got_of (step_def s (record_in r))) }
+      ≡ record { session = session_bytes (left_by (step_def Rules.Current s (record_in r))); outcome = got_bytes (got_of (step_def Rules.Current s (record_in r))) }
   one_step = rw (one_session, one_outcome, room) refl
 
 -- the rest of a list, from any session and history, where no record meets an ill-formed session
@@ -104,25 +105,25 @@ lent_by o = record { session = session_bytes (left_by o); outcome = got_bytes (g
 abbrev Onward : Session → List (List ℕ) → Type 0
 Onward given rs =
     (s : Session) (h : List Entry) (out : List ℕ) → Fits s → length out ≡ outcome_size
-    → (run_from given (map record_in rs) s h).answer ≡ Answer.Done 0
-    → Along (run_from given (map record_in rs) s h) (record { session = session_bytes s; outcome = out }) rs h
+    → (run_from Rules.Current given (map record_in rs) s h).answer ≡ Answer.Done 0
+    → Along (run_from Rules.Current given (map record_in rs) s h) (record { session = session_bytes s; outcome = out }) rs h
 
 along : (given : Session) (rs : List (List ℕ)) → Eights rs → Onward given rs
 unfolding run_from
 along given [] e s h out fits room done = record { session = refl; outcomes = refl }
 along given (r ∷ rs) e s h out fits room done =
-    let o = step_def s (record_in r) in
+    let o = step_def Rules.Current s (record_in r) in
     let q = one_step s fits out r room e.0 in
-    let n = go o (step_fits s r fits e.1) (all_there s o (demand_1 s (record_in r)).single) done (along given rs e.2) in
+    let n = go o (step_fits s r fits e.1) (all_there s o (demand_1 Rules.Current s (record_in r)).single) done (along given rs e.2) in
     record {
       session = ap (λ (l : Lent). session_left l rs) q ∙ n.session;
       outcomes = ap (λ (l : Lent). outcomes_of h (l.outcome ∷ outcomes_left l rs)) q ∙ n.outcomes;
     }
   where
     go : (o : Outcome) → Fits (left_by o) → length (got_bytes (got_of o)) ≡ outcome_size
-        → (taking o given h (record_in r) (run_from given (map record_in rs))).answer ≡ Answer.Done 0
+        → (taking o given h (record_in r) (run_from Rules.Current given (map record_in rs))).answer ≡ Answer.Done 0
         → Onward given rs
-        → Along (taking o given h (record_in r) (run_from given (map record_in rs))) (lent_by o) rs (record { what = record_in r; got = got_of o } ∷ h)
+        → Along (taking o given h (record_in r) (run_from Rules.Current given (map record_in rs))) (lent_by o) rs (record { what = record_in r; got = got_of o } ∷ h)
     go (sent t s') f n d k = k s' (record { what = record_in r; got = transfer t } ∷ h) (got_bytes (transfer t)) f n d
     go (answered x m s') f n d k = k s' (record { what = record_in r; got = answer x m } ∷ h) (got_bytes (answer x m)) f n d
     go (refused x s') f n d k = k s' (record { what = record_in r; got = refusal x } ∷ h) (got_bytes (refusal x)) f n d
@@ -130,17 +131,17 @@ along given (r ∷ rs) e s h out fits room done =
 
 -- the whole run, from any session whose numbers fit
 from_session : (s : Session) (out bytes : List ℕ) → Fits s → length out ≡ outcome_size → is_whole bytes ≡ true → are_bytes bytes ≡ true
-    → (run_def s bytes).answer ≡ Answer.Done 0 → Shows (run_def s bytes) (record { session = session_bytes s; outcome = out }) bytes
+    → (run_def Rules.Current s bytes).answer ≡ Answer.Done 0 → Shows (run_def Rules.Current s bytes) (record { session = session_bytes s; outcome = out }) bytes
 unfolding run_def run_records
-from_session s out bytes fits room whole are done = rw whole (by_test (ill_formed s) (rw whole at done))
+from_session s out bytes fits room whole are done = rw whole (by_test (ill_formed Rules.Current s) (rw whole at done))
   where
-    by_test : (t : Bool) → (cond t (stopped Answer.IllFormedSession s) (run_from s (records_of bytes) s [])).answer ≡ Answer.Done 0
-        → Shows (cond t (stopped Answer.IllFormedSession s) (run_from s (records_of bytes) s [])) (record { session = session_bytes s; outcome = out }) bytes
+    by_test : (t : Bool) → (cond t (stopped Answer.IllFormedSession s) (run_from Rules.Current s (records_of bytes) s [])).answer ≡ Answer.Done 0
+        → Shows (cond t (stopped Answer.IllFormedSession s) (run_from Rules.Current s (records_of bytes) s [])) (record { session = session_bytes s; outcome = out }) bytes
     by_test true d = cc
     by_test false d =
         let e = records_chunked bytes in
         let a = along s (records_in bytes) (rw (chunked bytes) (eights bytes are)) s [] out fits room (rw e d) in
-        record { session = a.session ∙ ap (λ rs. session_bytes (run_from s rs s []).session) e; outcomes = a.outcomes ∙ ap (λ rs. outcomes_of (run_from s rs s []).history []) e }
+        record { session = a.session ∙ ap (λ rs. session_bytes (run_from Rules.Current s rs s []).session) e; outcomes = a.outcomes ∙ ap (λ rs. outcomes_of (run_from Rules.Current s rs s []).history []) e }
 
 -- bytes that are a session have numbers that fit
 read_fits : (l : List ℕ) → is_session l ≡ true → are_bytes l ≡ true → Fits (session_of l)
@@ -171,7 +172,7 @@ fresh_fits =
 
 pub fresh_steps : FreshSteps
 fresh_steps l bytes h =
-    let d = demand_3 bytes in
+    let d = demand_3 Rules.Current bytes in
     record {
       shows = rw h.session_room (from_session fresh_session l.outcome bytes fresh_fits h.outcome_room h.records_whole h.records_are_bytes (rw h.records_whole at d.beyond.answer));
       demand_3 = d;

@@ -1,5 +1,6 @@
 -- What the exported functions make of the bytes that they are lent.
 use Rattle.std.specs.Prelude.{◌≡◌, true, cond, List, ℕ, ◌≤◌, eqb, length}
+use Rattle.session.specs.declared.Rules.{Rules}
 use Rattle.session.specs.declared.Answer.{Answer}
 use Rattle.session.specs.declared.Session.{Session}
 use Rattle.session.specs.Bus.{byte, number_of}
@@ -13,7 +14,7 @@ use Rattle.layout.specs.RoundTrip.{are_bytes}
 
 -- what a session is given for a record
 unfoldable pub met : List ℕ → List ℕ → Outcome
-met session bytes = outcome_of (step_def (session_of session) (record_in bytes))
+met session bytes = outcome_of (step_def Rules.Current (session_of session) (record_in bytes))
 
 -- the outcome of a record: 14 where it is not eight bytes, 15 where the session's bytes are none
 unfoldable pub step_outcome : List ℕ → List ℕ → List ℕ
@@ -36,8 +37,8 @@ fresh_number session = cond (eqb (length session) session_size) 0 (number_of Ans
 -- the transfer that a waiting session has out; 11 where no call waits, 15 where it is ill-formed
 unfoldable pub outstanding_bytes : Session → List ℕ
 outstanding_bytes s =
-    cond (ill_formed s) (refusal_bytes Answer.IllFormedSession)
-    (cond (waits_now s) (transfer_bytes (outstanding s)) (refusal_bytes Answer.NoCallWaits))
+    cond (ill_formed Rules.Current s) (refusal_bytes Answer.IllFormedSession)
+    (cond (waits_now s) (transfer_bytes (outstanding Rules.Current s)) (refusal_bytes Answer.NoCallWaits))
 
 unfoldable pub outstanding_in : List ℕ → List ℕ
 outstanding_in session = cond (is_session session) (outstanding_bytes (session_of session)) (refusal_bytes Answer.IllFormedSession)

@@ -1,6 +1,7 @@
 -- Records handed in one after the other, as callers in C and Rust do it, and the list run over the same bytes.
 use Rattle.std.specs.Prelude.{◌≡◌, true, List, [], ◌∷◌, ℕ, ◌/◌, length}
 use Rattle.std.specs.Simd.{first_chunks}
+use Rattle.session.specs.declared.Rules.{Rules}
 use Rattle.session.specs.declared.Answer.{Answer}
 use Rattle.session.specs.Bus.{number_of, values_of}
 use Rattle.session.specs.Machine.{fresh_session}
@@ -55,8 +56,8 @@ pub record Shows (run : Run) (l : Lent) (bytes : List ℕ) : Type 0 where
 
 -- from a session made fresh, over every list of whole records, a caller sees the list run, and demand 3 holds of it
 pub record StepsFresh (l : Lent) (bytes : List ℕ) : Type 0 where
-  pub shows : Shows (run_def fresh_session bytes) (made_fresh l) bytes
-  pub demand_3 : Both3 bytes (run_def fresh_session bytes)
+  pub shows : Shows (run_def Rules.Current fresh_session bytes) (made_fresh l) bytes
+  pub demand_3 : Both3 Rules.Current bytes (run_def Rules.Current fresh_session bytes)
 
 -- the bytes that a caller has to lend and to hand in
 pub record Handed (l : Lent) (bytes : List ℕ) : Type 0 where
@@ -73,5 +74,5 @@ FreshSteps = (l : Lent) (bytes : List ℕ) → Handed l bytes → StepsFresh l b
 abbrev pub AnySteps : Type 0
 AnySteps =
     (l : Lent) (bytes : List ℕ) → Handed l bytes → is_session l.session ≡ true → are_bytes l.session ≡ true
-    → (run_def (session_of l.session) bytes).answer ≡ Answer.Done 0
-    → Shows (run_def (session_of l.session) bytes) l bytes
+    → (run_def Rules.Current (session_of l.session) bytes).answer ≡ Answer.Done 0
+    → Shows (run_def Rules.Current (session_of l.session) bytes) l bytes

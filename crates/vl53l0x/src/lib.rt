@@ -7,7 +7,7 @@ ghost use Rattle.layout.specs.Layout.{session_size, outcome_size, placed, placed
 ghost use Rattle.vl53l0x.specs.Exports.{step_outcome, step_session, fresh_number, outstanding_in};
 
 use layout::{NOT_PUT, OUTCOME_SIZE, SESSION_SIZE};
-use session::{Answer, Given};
+use session::{Answer, Given, Rules};
 
 // What C lends has any length, so that each function tests it, and says so by a number of its own.
 
@@ -43,7 +43,7 @@ pub extern "C" fn vl53l0x_step(session: &mut [u8], record: &[u8], outcome: &mut 
     let Some(s) = layout::session_of(session) else {
         return layout::put_given(outcome, Given::IllFormed);
     };
-    let o = records::step(s, *eight);
+    let o = records::step(Rules::Current, s, *eight);
     layout::put_session(session, o.session);
     layout::put_given(outcome, o.given)
 }
@@ -55,7 +55,7 @@ fn outstanding_in(session: &[u8]) -> Given
     let Some(s) = layout::session_of(session) else {
         return Given::IllFormed;
     };
-    match driver::outstanding(s) {
+    match driver::outstanding(Rules::Current, s) {
         Some(t) => Given::Sent(t),
         None if s.code == 0 => Given::Refused(Answer::NoCallWaits),
         None => Given::IllFormed,

@@ -14,4 +14,4 @@ pub returns : goal.returns
 unfolding reached
 returns c =
     let s = c.args.s in
-    rw (c.move_after-next.ensures, c.kept_by.ensures, c.requires) (reacts s.at (op_of s.at) s.session c.args.reply.failure c.args.reply.data refl)
+    rw (c.move_after-next.ensures, c.kept_by.ensures, c.requires) (reacts c.args.rules s.at (op_of s.at) s.session c.args.reply.failure c.args.reply.data refl)

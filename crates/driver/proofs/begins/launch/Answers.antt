@@ -9,4 +9,4 @@ invariant_of-result c = record { sound_if = λ _. c.args.s.sound }
 
 pub returns : goal.returns
 unfolding reached facts_of
-returns c = rw (c.move_of-next.ensures, c.entry.ensures, c.facts_of.ensures) (launches c.args.s.session)
+returns c = rw (c.move_of-next.ensures, c.entry.ensures, c.facts_of.ensures) (launches c.args.rules c.args.s.session)

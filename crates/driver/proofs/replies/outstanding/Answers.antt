@@ -11,11 +11,11 @@ unfolding outstanding_of
 returns-then-ill_formed c =
     let s = c.args.s in
     elim c.then-ill_formed.branch [
-      | then-ill_formed-via-then-ill_formed w ↦ out_ill s (sym c.ill_formed.ensures ∙ w.if-ill_formed.true)
+      | then-ill_formed-via-then-ill_formed w ↦ out_ill c.args.rules s (sym c.ill_formed.ensures ∙ w.if-ill_formed.true)
       | then-ill_formed-via-else-ill_formed+then-s-eq0 w ↦ rw (eq-eqb _ _ w.if-s-eq0.true) refl
     ]
 
 pub returns : goal.returns
 returns c =
     let s = c.args.s in
-    ap Some (rw c.instruction_at-at.ensures at c.send_of.ensures) ∙ out_sent s (sym c.if-ill_formed.ensures) c.if-s-eq0.false
+    ap Some (rw c.instruction_at-at.ensures at c.send_of.ensures) ∙ out_sent c.args.rules s (sym c.if-ill_formed.ensures) c.if-s-eq0.false

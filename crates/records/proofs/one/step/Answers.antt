@@ -9,4 +9,4 @@ use Rattle.records.proofs.one.step.Goals as goal
 pub returns : goal.returns
 returns c =
     c.carry_out.ensures
-    ∙ ap outcome_of ((rw c.from.ensures at c.decision_of.ensures) ∙ ap (step_def c.args.s) (meant_shown (record_in c.args.«record»)))
+    ∙ ap outcome_of ((rw c.from.ensures at c.decision_of.ensures) ∙ ap (step_def c.args.rules c.args.s) (meant_shown (record_in c.args.«record»)))

@@ -11,11 +11,11 @@ pub returns-in-Ok-clause-value : goal.returns-in-Ok-clause-value
 unfolding finished
 returns-in-Ok-clause-value c =
     let a = c.args in
-    ap (λ (r : Result Progress Answer). finished r a.s) c.in-Ok.ensures ∙ runs a.s a.bytes.now
+    ap (λ (r : Result Progress Answer). finished r a.s) c.in-Ok.ensures ∙ runs a.rules a.s a.bytes.now
 
 pub returns-in-Err-clause-value : goal.returns-in-Err-clause-value
 unfolding finished
 returns-in-Err-clause-value c =
     let a = c.args in
     let e : c.default.result ≡ no_counts = search rules in
-    rw e (ap (λ (r : Result Progress Answer). finished r a.s) c.in-Err.ensures ∙ runs a.s a.bytes.now)
+    rw e (ap (λ (r : Result Progress Answer). finished r a.s) c.in-Err.ensures ∙ runs a.rules a.s a.bytes.now)
