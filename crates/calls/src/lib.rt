@@ -66,8 +66,8 @@ pub fn is_call(rules: Rules, code: u8) -> bool
     1 <= code && code <= top_code(rules)
 }
 
-// The most transfers that it makes by the rules.
-#[tactic(auto, using(crate::proofs::Programs::ceiling_is), unfolding(crate::specs::Calls::facts_of))]
+// The most transfers that a call makes, by the rules.
+#[tactic(auto, using(crate::proofs::Programs::ceiling_is, crate::proofs::Programs::ceiling_fits), unfolding(crate::specs::Calls::facts_of))]
 pub fn ceiling_of(rules: Rules, code: u8) -> u32
     ensures { result ≡ ceiling_of rules code }
 {

@@ -11,13 +11,11 @@ ghost use Rattle.checks.specs.Sound.{idle_bad, idle_at_step, malformed_at, ill_f
 use session::{CallRecord, Condition, ReplyRecord, Rules, Session, WITH_ADDRESS};
 use shapes::Kind;
 
-#[tactic(auto, using(crate::proofs::Places::arguments_are), unfolding(calls::specs::Calls::facts_of))]
 pub fn arguments_ok(rules: Rules, call: CallRecord) -> bool
     ensures { result ≡ arguments_ok rules call.code call.a call.b }
 {
     let facts = calls::facts_of(call.code);
-    // Every test is made: they are cheap, and together one equation.
-    calls::is_call(rules, call.code) & ((call.a <= facts.greatest_a) & (call.b <= facts.greatest_b))
+    calls::is_call(rules, call.code) && (call.a <= facts.greatest_a && call.b <= facts.greatest_b)
 }
 
 // By the call's code too: a call may have limits of its own.

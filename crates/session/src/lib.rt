@@ -13,8 +13,8 @@ pub const TIMING_SLOT: u8 = 8;
 
 pub const SECOND_SLOT: u8 = 16;
 
-// SCOPE 2.6: the rules as first written, and those that hold today. A parameter of every definition and function that depends on them, and no field of
-// a session: a session is data, and means the same to both.
+// SCOPE 2.6: the rules as first written, and those that hold today. They are named where a call is begun, a reply handed in or a list run, and no
+// session says anything of them.
 #[derive(Clone, Copy, PartialEq, Eq, Debug)]
 pub enum Rules {
     First,
