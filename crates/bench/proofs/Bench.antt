@@ -6,7 +6,7 @@ use Rattle.timing.specs.Timeouts.{timeout_clocks, period_clocks, pre_share, fina
 use Rattle.timing.specs.Places.{timeout_place, period_place, less_place, entries_of, first_match, first_place}
 use Rattle.budget.specs.Sums.{dss_or_msrc, step_sum, budget_sum, used_sum}
 use Rattle.budget.specs.Budget.{measurement_timing_budget, word_of_sum, word_within, final_range_word}
-use Rattle.session.proofs.Bench.{rules_values, session_values}
+use Rattle.session.proofs.Bench.{first_values, current_values, session_values}
 use Rattle.bench.specs.Bench.{BenchValues}
 
 pub bench : BenchValues
@@ -31,5 +31,6 @@ bench = record {
   call_9 = refl;
   call_9_now = refl;
   session = session_values;
-  rules = rules_values;
+  by_first = first_values;
+  by_current = current_values;
 }

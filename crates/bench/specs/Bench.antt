@@ -8,8 +8,8 @@ use Rattle.timing.specs.declared.TimingRegisters.{TimingRegisters}
 use Rattle.timing.specs.Registers.{registers_of}
 use Rattle.budget.specs.Budget.{measurement_timing_budget, final_range_word}
 use Rattle.session.specs.declared.Rules.{Rules}
-use Rattle.session.specs.Rules.{dss_of}
-use Rattle.session.specs.Bench.{RulesValues, SessionValues}
+use Rattle.session.specs.Rules.{dss_term_of}
+use Rattle.session.specs.Bench.{FirstValues, CurrentValues, SessionValues}
 
 -- a map of six bytes FF
 abbrev pub all_good : List ℕ
@@ -37,8 +37,9 @@ pub record BenchValues : Type 0 where
   pub map_0 : selected all_good 0 true ≡ 0x00 ∷ 0x00 ∷ 0x00 ∷ 0x00 ∷ 0x00 ∷ 0x00 ∷ []
   pub call_15 : measurement_timing_budget reads ≡ Ok (record { 0 = 31326 })
   -- SCOPE 2.6: by the first rules, for ever, and by the current ones
-  pub call_9 : final_range_word reads (record { 0 = 33000 }) (dss_of Rules.First) ≡ Ok 0x0292
-  pub call_9_now : final_range_word reads (record { 0 = 33000 }) (dss_of Rules.Current) ≡ Ok 0x0292
+  pub call_9 : final_range_word reads (record { 0 = 33000 }) (dss_term_of Rules.First) ≡ Ok 0x0292
+  pub call_9_now : final_range_word reads (record { 0 = 33000 }) (dss_term_of Rules.Current) ≡ Ok 0x0292
   -- the numbers and values of the answers, a fresh session's zeros, and the run of SCOPE 10.1
   pub session : (rules : Rules) → SessionValues rules
-  pub rules : RulesValues
+  pub by_first : FirstValues
+  pub by_current : CurrentValues

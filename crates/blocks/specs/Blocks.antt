@@ -10,7 +10,8 @@ use Rattle.records.specs.Records.{record_in}
 use Rattle.lines.specs.Put.{line_room, Put}
 use Rattle.blocks.specs.declared.Printout.{Printout}
 
--- the lines of records, where `line` is the line of an outcome: each record meets the session that the one before it left
+-- the lines of records, where `line` is the line of an outcome: each record meets the session that the one before it left. SCOPE 2.6: programs go by
+-- the current rules
 unfoldable pub lines_of : (Outcome → List ℕ) → Session → List Record → List ℕ
 lines_of line s [] = []
 lines_of line s (r ∷ rs) = line (outcome_of (step_def Rules.Current s r)) ++ lines_of line (session_of (step_def Rules.Current s r)) rs

@@ -7,7 +7,7 @@ use Rattle.timing.specs.Registers.{sequence_step_enables, when_on}
 use Rattle.timing.specs.Timeouts.{time_in, msrc_time, pre_time, final_time}
 use Rattle.budget.specs.declared.DssTerm.{DssTerm}
 
--- SCOPE 5.4: for DSS call 15 counts 2 × (MSRC + 690), call 9 counts 2 × MSRC + 690
+-- SCOPE 5.4: DSS counts as 2 × (MSRC + 690), so for call 15, or as 2 × MSRC + 690, so in lib.rs for call 9
 abbrev pub dss_of : DssTerm → ℕ → ℕ
 dss_of DssTerm.Twice msrc = 2 * (msrc + 690)
 dss_of DssTerm.Once msrc = 2 * msrc + 690

@@ -11,7 +11,7 @@ ghost use Rattle.budget.specs.declared.NoWord.TheVariants.{Panic};
 pub use answers::{final_range_word, measurement_timing_budget, set_budget};
 use clock::Place;
 
-// How often the DSS overhead is counted: twice by call 15, once by call 9.
+// How often the DSS overhead is counted: twice by call 15, and where a budget is set as the rules have it (SCOPE 5.4).
 #[derive(Clone, Copy, Debug, PartialEq, Eq)]
 pub enum DssTerm {
     Twice,

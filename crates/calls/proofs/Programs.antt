@@ -10,7 +10,7 @@ use Rattle.session.specs.declared.Rules.{Rules}
 use Rattle.session.specs.Rules.{tries_of}
 use Rattle.session.specs.Calls.{Program, nothing, tuning, programs, program_of, ceiling_of}
 use Rattle.session.proofs.Table.{of_test}
-use Rattle.session.proofs.Alike.{ceiling_alike}
+use Rattle.session.proofs.Unchanged.{ceiling_alike}
 use Rattle.calls.specs.declared.TheConstants.{FACTS}
 
 abbrev row_of : Program → ℕ × ℕ × ℕ × ℕ

@@ -1,5 +1,5 @@
 -- What the code looks up of a call by its code, and of its instructions at a step. Each is read off the session's definition of the call.
--- By the rules go its instructions, its ceiling and whether there is a call; the rest is one for all rules (`Alike` of crate session), and is read
+-- By the rules go its instructions, its ceiling and whether there is a call; the rest is one for all rules (proofs/Unchanged of crate session), and is read
 -- off the current ones.
 use Rattle.std.specs.Prelude.{List, ℕ, length, get_or}
 use Rattle.session.specs.declared.Rules.{Rules}

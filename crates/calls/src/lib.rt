@@ -12,7 +12,7 @@ ghost use Rattle.std.specs.Prelude.{◌≡◌, ◌&&◌, leb};
 ghost use Rattle.session.specs.Calls.{top_code, ceiling_of};
 ghost use Rattle.calls.specs.Calls.{facts_of, instruction_at};
 
-use rules::{dss_of, top_code, tries_of};
+use rules::{dss_term_of, top_code, tries_of};
 use sections::looked_up;
 use session::{Instruction, Rules};
 
@@ -81,7 +81,7 @@ pub fn instruction_at(rules: Rules, code: u8, step: u8) -> Instruction
     ensures { result ≡ instruction_at rules code step }
 {
     match code {
-        1 => bring_up::with_address(dss_of(rules), step),
+        1 => bring_up::with_address(dss_term_of(rules), step),
         2 => tables::who_am_i(step),
         3 => tables::set_address(step),
         4 => tables::start_continuous(step),
@@ -89,7 +89,7 @@ pub fn instruction_at(rules: Rules, code: u8, step: u8) -> Instruction
         6 => tables::read_range_mm(step),
         7 => tables::read_range_continuous(step),
         8 => tables::read_range_single(step),
-        9 => tables::set_budget(dss_of(rules), step),
+        9 => tables::set_budget(dss_term_of(rules), step),
         10 => tables::set_thresholds(step),
         11 => tables::get_thresholds(step),
         12 => tables::set_gpio_config(step),

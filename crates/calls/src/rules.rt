@@ -1,6 +1,6 @@
-// What the calls take from the rules (SCOPE 2.6).
+// What the calls take from the rules (SCOPE 2.6). An arm for each, also where they say the same: the first rules' never changes.
 ghost use Rattle.std.specs.Prelude.{◌≡◌};
-ghost use Rattle.session.specs.Rules.{dss_of, tries_of};
+ghost use Rattle.session.specs.Rules.{dss_term_of, tries_of};
 ghost use Rattle.session.specs.Calls.{top_code};
 
 use crate::FACTS;
@@ -19,11 +19,12 @@ pub(crate) fn top_code(rules: Rules) -> u8
 }
 
 // How often the DSS overhead is counted where a budget is set.
-pub(crate) fn dss_of(rules: Rules) -> DssTerm
-    ensures { result ≡ dss_of rules }
+pub(crate) fn dss_term_of(rules: Rules) -> DssTerm
+    ensures { result ≡ dss_term_of rules }
 {
     match rules {
-        Rules::First | Rules::Current => DssTerm::Once,
+        Rules::First => DssTerm::Once,
+        Rules::Current => DssTerm::Once,
     }
 }
 
@@ -32,6 +33,7 @@ pub(crate) fn tries_of(rules: Rules) -> u32
     ensures { result ≡ tries_of rules }
 {
     match rules {
-        Rules::First | Rules::Current => 1,
+        Rules::First => 1,
+        Rules::Current => 1,
     }
 }

@@ -16,7 +16,7 @@ use Rattle.session.specs.Steps.{op_of}
 use Rattle.session.specs.Calls.{ops_of, program_of, top_code, ceiling_of, arguments_ok}
 use Rattle.session.specs.Machine.{all_zero, idle_wrong, up_wrong, malformed, ill_formed}
 use Rattle.ground.proofs.Facts.{or_parts, untrue}
-use Rattle.session.proofs.Alike.{steps_alike, greatest_a_alike, greatest_b_alike}
+use Rattle.session.proofs.Unchanged.{steps_alike, greatest_a_alike, greatest_b_alike}
 use Rattle.session.proofs.Strays.{sound_step}
 use Rattle.calls.specs.Calls.{step_of, instruction_at, steps_in}
 use Rattle.calls.proofs.Programs.{ceiling_fits, ceiling_is}

@@ -17,7 +17,7 @@ use Rattle.session.specs.Calls.{program_of}
 use Rattle.ground.proofs.Facts.{both}
 use Rattle.std.specs.Prelude.{None, Some}
 use Rattle.session.specs.Machine.{refused, broken, react, to_reply, context_of, stray, waits_now, malformed, ill_formed, begun, reply_def}
-use Rattle.session.proofs.Alike.{steps_alike, entry_alike}
+use Rattle.session.proofs.Unchanged.{steps_alike, entry_alike}
 use Rattle.calls.specs.Calls.{instruction_at, steps_in}
 use Rattle.programs.specs.Programs.{entry_of}
 use Rattle.shapes.specs.declared.Shape.{Shape}

@@ -22,7 +22,7 @@ abbrev pub end_of : Final → Ended
 end_of (success v d) = Ok (finishes v d)
 end_of (failure e) = Err (record { 0 = e })
 
--- by a call's code: one for all rules (`Alike` of crate session), read off the current ones
+-- by a call's code: one for all rules (proofs/Unchanged of crate session), read off the current ones
 unfoldable pub entry_of : ℕ → Context → Verdict
 entry_of code = (program_of Rules.Current code).entry
 

@@ -16,7 +16,7 @@ use Rattle.session.specs.Instructions.{Final, success, failure, Verdict, onward,
 use Rattle.session.specs.Steps.{op_of}
 use Rattle.session.specs.Calls.{program_of}
 use Rattle.session.specs.Machine.{sent, context_of, sending, kept_of, giving, conclude, arrive, decide, react, to_reply}
-use Rattle.session.proofs.Alike.{final_alike}
+use Rattle.session.proofs.Unchanged.{final_alike}
 use Rattle.calls.specs.Calls.{instruction_at, steps_in}
 use Rattle.ground.proofs.Facts.{cond_case}
 use Rattle.shapes.specs.declared.Shape.{Shape}

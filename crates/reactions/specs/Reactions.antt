@@ -1,6 +1,6 @@
 -- Where a record takes a session, in four steps over the plain data of the instruction that it stands at: what is kept of a reply (crate shapes),
 -- the move that it makes, the action that this comes to, and the outcome. That this is the machine's `react` is proved.
--- A decision is a move with its session.
+-- A decision is a move with its session and its rules.
 use Rattle.std.specs.Prelude.{Bool, true, false, cond, ◌≡◌, List, ℕ, suc, ◌+◌, eqb, ltb, Ok, Err}
 use Rattle.session.specs.declared.Rules.{Rules}
 use Rattle.session.specs.declared.Session.{Session}

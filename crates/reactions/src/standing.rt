@@ -1,4 +1,4 @@
-// A session at an instruction, and a session with the move that it makes.
+// A session at an instruction, and a session with the move that it makes and the rules by which it does.
 ghost use Rattle.checks.specs.Sound.{Sound};
 ghost use Rattle.reactions.specs.Standing.{leads, SoundIf};
 

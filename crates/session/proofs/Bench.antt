@@ -19,7 +19,7 @@ use Rattle.session.specs.Machine.{arrive, stray, malformed, reply_def, begin_def
 use Rattle.session.specs.Records.{call, reply, other, call_bytes, reply_bytes, records_of}
 use Rattle.session.specs.RustBringUp.{new, calls, rust}
 use Rattle.session.specs.History.{step_def, run_from, run_records, run_def}
-use Rattle.session.specs.Bench.{AnswerValues, CarriedPlaces, HeldValues, RulesValues, EdgeValues, SessionValues}
+use Rattle.session.specs.Bench.{AnswerValues, CarriedPlaces, HeldValues, FirstValues, CurrentValues, EdgeValues, SessionValues}
 
 answer_values : AnswerValues
 answer_values = record {
@@ -52,9 +52,13 @@ unfolding reply_def malformed stray arrive program_of programs top_code tuning a
 held_values Rules.First = search author
 held_values Rules.Current = search author
 
-pub rules_values : RulesValues
-unfolding step_def begin_def malformed arrive program_of programs top_code tuning arguments_ok ceiling_of
-rules_values = record { by_first = refl; by_current = refl; most_by_first = refl; most_by_current = refl }
+pub first_values : FirstValues
+unfolding step_def begin_def reply_def malformed stray arrive program_of programs top_code tuning arguments_ok ceiling_of
+first_values = record { codes = refl; ceilings = refl; at_ceiling = refl; over_ceiling = refl; past_the_last = refl }
+
+pub current_values : CurrentValues
+unfolding step_def begin_def reply_def malformed stray arrive program_of programs top_code tuning arguments_ok ceiling_of
+current_values = record { codes = refl; ceilings = refl; at_ceiling = refl; over_ceiling = refl; past_the_last = refl }
 
 edge_values : (rules : Rules) → EdgeValues rules
 unfolding step_def begin_def malformed arrive program_of programs top_code tuning arguments_ok ceiling_of signal_rate_limit_word rate_of in_range literal round units odd size climb span of_bits of_fields le lt eq

@@ -16,7 +16,7 @@ use Rattle.budget.specs.Sums.{budget_sum, used_sum}
 use Rattle.budget.specs.Budget.{measurement_timing_budget, word_of_sum, word_within, final_range_word}
 use Rattle.session.specs.declared.Rules.{Rules}
 use Rattle.session.specs.Bus.{Answer}
-use Rattle.session.specs.Rules.{dss_of}
+use Rattle.session.specs.Rules.{dss_term_of}
 use Rattle.session.specs.Steps.{word_in}
 use Rattle.session.specs.RustFn.{ok, err, Fn, ◌>>=◌, ◌>>◌, Ok, panic, if, set_self_budget, write_16bit}
 use Rattle.session.specs.RustClocks.{over_u32, encode_timeout, calc_macro_period, timeout_microseconds_to_mclks, add_if}
@@ -33,7 +33,7 @@ pub budget_of : (r : TimingRegisters) → budget_microseconds (enables_in r) (ti
 unfolding budget_sum
 budget_of r = rw (budget_is, bit_on_is)
 
-pub used_of : (rules : Rules) (r : TimingRegisters) → use_budget_microseconds rules (enables_in r) (timeouts_in r) ≡ (used_sum r (dss_of rules)).0
+pub used_of : (rules : Rules) (r : TimingRegisters) → use_budget_microseconds rules (enables_in r) (timeouts_in r) ≡ (used_sum r (dss_term_of rules)).0
 unfolding used_sum
 used_of rules r = rw (used_is rules, bit_on_is)
 
@@ -47,28 +47,28 @@ get_is =
 
 abbrev pub write_final : Rules → TimingRegisters → ℕ → Fn Bool
 write_final rules r budget = do
-  write_16bit 0x71 (word_in (final_range_word r (record { 0 = budget }) (dss_of rules)))
+  write_16bit 0x71 (word_in (final_range_word r (record { 0 = budget }) (dss_term_of rules)))
   set_self_budget budget
   Ok true
 
 abbrev pub tested : Rules → TimingRegisters → ℕ → Fn Bool
 tested rules r budget chip ret =
-    cond (ltb budget (used_sum r (dss_of rules)).0) (ret (ok false) chip)
-    (cond (ltb 4294967295 (spare_sum (dss_of rules) r budget)) (ret (err (Answer.Panic 7)) chip)
+    cond (ltb budget (used_sum r (dss_term_of rules)).0) (ret (ok false) chip)
+    (cond (ltb 4294967295 (spare_sum (dss_term_of rules) r budget)) (ret (err (Answer.Panic 7)) chip)
     (cond (eqb (final_macro r) 0) (ret (err (Answer.Panic 8)) chip)
-    (cond (ltb 65535 (total_clocks (dss_of rules) r budget)) (ret (err (Answer.Panic 9)) chip)
+    (cond (ltb 65535 (total_clocks (dss_term_of rules) r budget)) (ret (err (Answer.Panic 9)) chip)
     (write_final rules r budget chip ret))))
 
 -- once the tests are passed
 final_word : (rules : Rules) (r : TimingRegisters) (budget : ℕ)
     → first_place r 6 ≡ None
-    → ltb budget (used_sum r (dss_of rules)).0 ≡ false
-    → ltb 4294967295 (spare_sum (dss_of rules) r budget) ≡ false
+    → ltb budget (used_sum r (dss_term_of rules)).0 ≡ false
+    → ltb 4294967295 (spare_sum (dss_term_of rules) r budget) ≡ false
     → eqb (final_macro r) 0 ≡ false
-    → ltb 65535 (total_clocks (dss_of rules) r budget) ≡ false
-    → encode_timeout (total_clocks (dss_of rules) r budget) ≡ word_in (final_range_word r (record { 0 = budget }) (dss_of rules))
+    → ltb 65535 (total_clocks (dss_term_of rules) r budget) ≡ false
+    → encode_timeout (total_clocks (dss_term_of rules) r budget) ≡ word_in (final_range_word r (record { 0 = budget }) (dss_term_of rules))
 unfolding final_range_word word_within mclks_of word_of_sum
-final_word rules r budget h e₁ e₂ e₃ e₄ = rw (h, e₁, e₂, e₃, e₄) (encode_is (total_clocks (dss_of rules) r budget) (omega (arith, ltb-false 65535 (total_clocks (dss_of rules) r budget) e₄)))
+final_word rules r budget h e₁ e₂ e₃ e₄ = rw (h, e₁, e₂, e₃, e₄) (encode_is (total_clocks (dss_term_of rules) r budget) (omega (arith, ltb-false 65535 (total_clocks (dss_term_of rules) r budget) e₄)))
 
 -- the product is at most the sum, so one test serves both
 clocks_is : timeout_microseconds_to_mclks
@@ -100,13 +100,13 @@ tests_are : (rules : Rules) (r : TimingRegisters) (budget : ℕ) → first_place
 unfolding pre_share
 tests_are rules r budget h = fun_ext (λ chip. fun_ext (λ ret.
     rw (used_of rules r, clocks_is, bit_on_is)
-    (cond_both (ltb budget (used_sum r (dss_of rules)).0) (λ e. refl)
-    (λ e₁. cond_both (ltb 4294967295 (spare_sum (dss_of rules) r budget)) (λ e. refl)
+    (cond_both (ltb budget (used_sum r (dss_term_of rules)).0) (λ e. refl)
+    (λ e₁. cond_both (ltb 4294967295 (spare_sum (dss_term_of rules) r budget)) (λ e. refl)
     (λ e₂. cond_both (eqb (final_macro r) 0) (λ e. refl)
     (λ e₃.
-    let n = spare_sum (dss_of rules) r budget / final_macro r % 65536 in
+    let n = spare_sum (dss_term_of rules) r budget / final_macro r % 65536 in
     rw (add_is (sequence_step_enables r.sequence).prerange n (timeout_clocks r.pretimeout).0 (omega arith))
-    (cond_both (ltb 65535 (total_clocks (dss_of rules) r budget)) (λ e. refl)
+    (cond_both (ltb 65535 (total_clocks (dss_term_of rules) r budget)) (λ e. refl)
     (λ e₄. rw (final_word rules r budget h e₁ e₂ e₃ e₄)))))))))
 
 pub rest_is : (rules : Rules) → set_budget_from_reads rules ≡ (λ budget. six (λ r. tested rules r budget))

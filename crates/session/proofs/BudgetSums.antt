@@ -7,7 +7,7 @@ use Rattle.timing.specs.declared.SeqStepEnables.{SeqStepEnables}
 use Rattle.budget.specs.declared.DssTerm.{DssTerm}
 use Rattle.budget.specs.Sums.{dss_of as overhead, dss_or_msrc, step_sum}
 use Rattle.session.specs.declared.Rules.{Rules}
-use Rattle.session.specs.Rules.{dss_of}
+use Rattle.session.specs.Rules.{dss_term_of}
 use Rattle.session.specs.RustCalls.{Enables, budget_microseconds, dss_microseconds, use_budget_microseconds}
 
 abbrev pub steps_of : Enables → SeqStepEnables
@@ -39,15 +39,15 @@ budget_is = fun_ext (λ e. fun_ext (λ t.
     (msrc + 590) (2 * (msrc + 690)) (msrc + 660) (t.pre_range_microseconds + 660) (t.final_range_microseconds + 550)))
 
 -- DSS, as the rules count it
-overhead_is : (rules : Rules) (msrc : ℕ) → dss_microseconds rules msrc ≡ overhead (dss_of rules) msrc
+overhead_is : (rules : Rules) (msrc : ℕ) → dss_microseconds rules msrc ≡ overhead (dss_term_of rules) msrc
 overhead_is Rules.First msrc = refl
 overhead_is Rules.Current msrc = refl
 
 pub used_is : (rules : Rules) → use_budget_microseconds rules
-    ≡ (λ e t. step_sum (steps_of e) 1320 (dss_of rules) t.msrc_dss_tcc_microseconds t.pre_range_microseconds 550)
+    ≡ (λ e t. step_sum (steps_of e) 1320 (dss_term_of rules) t.msrc_dss_tcc_microseconds t.pre_range_microseconds 550)
 unfolding use_budget_microseconds step_sum dss_or_msrc
 used_is rules = fun_ext (λ e. fun_ext (λ t.
     let msrc = t.msrc_dss_tcc_microseconds in
     rw (overhead_is rules msrc)
     (sums e.tcc e.dss e.msrc e.pre_range e.final_range (1320 + 960)
-    (msrc + 590) (overhead (dss_of rules) msrc) (msrc + 660) (t.pre_range_microseconds + 660) 550)))
+    (msrc + 590) (overhead (dss_term_of rules) msrc) (msrc + 660) (t.pre_range_microseconds + 660) 550)))

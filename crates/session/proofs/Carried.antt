@@ -13,7 +13,7 @@ use Rattle.session.specs.declared.Rules.{Rules}
 use Rattle.session.specs.Bus.{Driver, Answer, good, zero_from}
 use Rattle.session.specs.declared.Setting.{Setting}
 use Rattle.session.specs.Instructions.{Instruction, range_slot, bytes_from, send_of}
-use Rattle.session.specs.Rules.{dss_of}
+use Rattle.session.specs.Rules.{dss_term_of}
 use Rattle.session.specs.Steps.{slot_word, rate_in, period_too_long, op_of}
 use Rattle.session.specs.Calls.{tuning, by_code, finishes, range_result, programs, program_of}
 use Rattle.session.specs.Machine.{Session, answered, resting, held_by, context_of, kept_of, conclude, arrive, react, stray, outstanding}
@@ -126,7 +126,7 @@ carried_answers rules s bs u long clean = (
               (
                 at_last rules s bs u clean 8 12 (Instruction.Write 0x0B 0x00) _ _ refl (λ e e'. rw (e, e') (rw (e, e') at (range_is s))),
                 (
-                  at_last rules s bs u clean 9 6 (Instruction.WriteWord 8 Setting.Asked (dss_of rules)) _ _ refl (λ e e'. rw (e, e') refl),
+                  at_last rules s bs u clean 9 6 (Instruction.WriteWord 8 Setting.Asked (dss_term_of rules)) _ _ refl (λ e e'. rw (e, e') refl),
                   (
                     at_last rules s bs u clean 10 1 Instruction.WriteHigh _ _ refl (λ e e'. rw (e, e') refl),
                     (

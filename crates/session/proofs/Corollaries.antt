@@ -11,7 +11,7 @@ use Rattle.session.specs.declared.Rules.{Rules}
 use Rattle.session.specs.Bus.{Condition}
 use Rattle.session.specs.Machine.{fresh_session}
 use Rattle.session.specs.History.{run_def, Exchange, calls_of, transfers_of}
-use Rattle.session.specs.Claim3.{most_in, ceiling_in, floor_in, most_in, read_of, idle_reply, idle_reads, All, Lawful, LawfulBeyond, LastIdle, BringUpCount}
+use Rattle.session.specs.Claim3.{most_in, ceiling_in, floor_in, read_of, idle_reply, idle_reads, All, Lawful, LawfulBeyond, LastIdle, BringUpCount}
 use Rattle.session.proofs.Lawful.{all_two}
 use Rattle.session.proofs.Demand3.{demand_3}
 

@@ -19,7 +19,7 @@ use Rattle.session.specs.declared.Rules.{Rules}
 use Rattle.session.specs.Bus.{byte, Transfer, Answer, Driver, Reply, good, data_in}
 use Rattle.session.specs.Instructions.{Instruction, Context, Op, Final, bytes_from, put, timing_in, send_of, timing_slot}
 use Rattle.session.specs.declared.Setting.{Setting}
-use Rattle.session.specs.Rules.{dss_of}
+use Rattle.session.specs.Rules.{dss_term_of}
 use Rattle.session.specs.Steps.{by_place, by_word, no_time, over_last, word_to_set, timing_length, timing_place, op_of}
 use Rattle.session.specs.Calls.{ops_of, timing_reads, tuning, bring_up_steps, programs, program_of}
 use Rattle.session.specs.Machine.{Session, context_of, first_transfer_out, outstanding}
@@ -212,9 +212,9 @@ reads_in : (rules : Rules) (s : Session) (n k : ℕ) (x : Script) → n ≤ 5 �
     → hears (left rules s) (good bs) ≡ after_replies x (take n (budget_replies k s.carried) ++ good bs ∷ [])
 unfolding program_of programs tuning
 reads_in rules s n k x h (in_call_15 e t) len = reply_leads rules s 15 0 n first (found refl) [] refl e (omega (arith, t)) h x len (from_15 rules s)
-reads_in rules s n k x h (in_call_9 e t) len = reply_leads rules s 9 0 n first (word Setting.Asked (dss_of rules)) (Instruction.WriteWord 8 Setting.Asked (dss_of rules) ∷ []) refl e (omega (arith, t)) h x len (from_9 rules s)
-reads_in rules s n k x h (in_bring_up e t) len = reply_leads rules s 1 129 n first (found refl) (drop 135 (bring_up_steps (dss_of rules))) refl e t h x len (from_1 rules s)
-reads_in rules s n k x h (again_in_bring_up e t) len = reply_leads rules s 1 136 n second (word Setting.Found (dss_of rules)) (drop 142 (bring_up_steps (dss_of rules))) refl e t h x len (again_from_1 rules s)
+reads_in rules s n k x h (in_call_9 e t) len = reply_leads rules s 9 0 n first (word Setting.Asked (dss_term_of rules)) (Instruction.WriteWord 8 Setting.Asked (dss_term_of rules) ∷ []) refl e (omega (arith, t)) h x len (from_9 rules s)
+reads_in rules s n k x h (in_bring_up e t) len = reply_leads rules s 1 129 n first (found refl) (drop 135 (bring_up_steps (dss_term_of rules))) refl e t h x len (from_1 rules s)
+reads_in rules s n k x h (again_in_bring_up e t) len = reply_leads rules s 1 136 n second (word Setting.Found (dss_term_of rules)) (drop 142 (bring_up_steps (dss_term_of rules))) refl e t h x len (again_from_1 rules s)
 
 pub first_place_law : (rules : Rules) (s : Session) (bs : List ℕ) → FirstPlace rules s bs
 first_place_law rules s bs n k x h q u len z =
@@ -261,13 +261,13 @@ unfolding program_of programs tuning
 word_out rules s k x t f (of_call_9 e p) len h z =
     ap (λ m. first_transfer_out (drop s.step (ops_of (program_of rules m))) (context_of s)) e
     ∙ ap (λ m. first_transfer_out (drop m (ops_of (program_of rules 9))) (context_of s)) p
-    ∙ again first Setting.Asked (dss_of rules) (program_of rules 9).final [] (context_of s) t f (λ c' h' y. clash cc) (six_replies rules 9 0 s first (word Setting.Asked (dss_of rules)) (Instruction.WriteWord 8 Setting.Asked (dss_of rules) ∷ []) refl e len x (from_9 rules s) ∙ h) z
+    ∙ again first Setting.Asked (dss_term_of rules) (program_of rules 9).final [] (context_of s) t f (λ c' h' y. clash cc) (six_replies rules 9 0 s first (word Setting.Asked (dss_term_of rules)) (Instruction.WriteWord 8 Setting.Asked (dss_term_of rules) ∷ []) refl e len x (from_9 rules s) ∙ h) z
 word_out rules s k x t f (of_bring_up e p) len h z =
     ap (λ m. first_transfer_out (drop s.step (ops_of (program_of rules m))) (context_of s)) e
     ∙ ap (λ m. first_transfer_out (drop m (ops_of (program_of rules 1))) (context_of s)) p
-    ∙ again second Setting.Found (dss_of rules) (program_of rules 1).final (map op_of (drop 143 (bring_up_steps (dss_of rules)))) (context_of s) t f
+    ∙ again second Setting.Found (dss_term_of rules) (program_of rules 1).final (map op_of (drop 143 (bring_up_steps (dss_term_of rules)))) (context_of s) t f
     (λ c' h' y. let same : send_of (op_of (Instruction.Write 0x01 0x01)) c' ≡ t = cc in let n : ◌≡◌ {A = ℕ} 0x01 0x71 = ap (λ x. byte 0 x.written) same ∙ y in absurd (omega (arith, n)))
-    (six_replies rules 1 136 s second (word Setting.Found (dss_of rules)) (drop 142 (bring_up_steps (dss_of rules))) refl e len x (again_from_1 rules s) ∙ h) z
+    (six_replies rules 1 136 s second (word Setting.Found (dss_term_of rules)) (drop 142 (bring_up_steps (dss_term_of rules))) refl e len x (again_from_1 rules s) ∙ h) z
 
 -- ---- the sequence steps of a bring-up
 steps_lead : (rules : Rules) (s : Session) → s.code ≡ 1 → s.step ≡ 135 → length s.carried ≡ 24 → left rules s ≡ constructed (chip_in s s.found_budget) (write_byte 0x01 0xE8 >> (set_measurement_timing_budget rules s.found_budget >> calibration))

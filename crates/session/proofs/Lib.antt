@@ -1,6 +1,6 @@
 -- common
 pub mod Table
-pub mod Alike
+pub mod Unchanged
 pub mod Slots
 pub mod Good
 pub mod Cut

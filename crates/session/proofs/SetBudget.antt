@@ -21,7 +21,7 @@ use Rattle.budget.specs.Budget.{word_of_sum, word_within, word_after, final_rang
 use Rattle.session.specs.declared.Rules.{Rules}
 use Rattle.session.specs.Bus.{Driver, Transfer, Answer, Reply}
 use Rattle.session.specs.Machine.{Session}
-use Rattle.session.specs.Rules.{dss_of}
+use Rattle.session.specs.Rules.{dss_term_of}
 use Rattle.session.specs.Script.{Script, done, send, Raw, data_of, is_clean, cut, Trace, sends, ends, heard, play}
 use Rattle.session.specs.RustFn.{Fn, ◌>>◌, Ok, panic, if, set_self_budget, write_16bit}
 use Rattle.session.specs.RustBringUp.{method, flag, calls, rust}
@@ -39,7 +39,7 @@ by_word budget (Fails NoWord.NoTime) = Ok false
 by_word budget (Fails (NoWord.Panic p)) = panic (place_number p)
 
 abbrev word : Rules → TimingRegisters → ℕ → Result ℕ NoWord
-word rules r budget = final_range_word r (record { 0 = budget }) (dss_of rules)
+word rules r budget = final_range_word r (record { 0 = budget }) (dss_term_of rules)
 
 cond_is : {A : Type 0} (b : Bool) {x y z : A} → (b ≡ true → x ≡ z) → (b ≡ false → y ≡ z) → cond b x y ≡ z
 cond_is true f g = f refl
@@ -48,10 +48,10 @@ cond_is false f g = g refl
 tested_is : (rules : Rules) (r : TimingRegisters) (budget : ℕ) → first_place r 6 ≡ None → tested rules r budget ≡ by_word budget (word rules r budget)
 unfolding final_range_word word_within mclks_of word_of_sum
 tested_is rules r budget h = fun_ext (λ chip. fun_ext (λ ret.
-    cond_is (ltb budget (used_sum r (dss_of rules)).0) (λ e₁. rw (h, e₁) refl)
-    (λ e₁. cond_is (ltb 4294967295 (spare_sum (dss_of rules) r budget)) (λ e₂. rw (h, e₁, e₂) refl)
+    cond_is (ltb budget (used_sum r (dss_term_of rules)).0) (λ e₁. rw (h, e₁) refl)
+    (λ e₁. cond_is (ltb 4294967295 (spare_sum (dss_term_of rules) r budget)) (λ e₂. rw (h, e₁, e₂) refl)
     (λ e₂. cond_is (eqb (final_macro r) 0) (λ e₃. rw (h, e₁, e₂, e₃) refl)
-    (λ e₃. cond_is (ltb 65535 (total_clocks (dss_of rules) r budget)) (λ e₄. rw (h, e₁, e₂, e₃, e₄) refl)
+    (λ e₃. cond_is (ltb 65535 (total_clocks (dss_term_of rules) r budget)) (λ e₄. rw (h, e₁, e₂, e₃, e₄) refl)
     (λ e₄. rw (h, e₁, e₂, e₃, e₄) refl))))))
 
 words_are : (rules : Rules) (budget : ℕ) → six (λ r. tested rules r budget) ≡ six (λ r. by_word budget (word rules r budget))
@@ -143,7 +143,7 @@ module _ (rules : Rules) (d : Driver) (budget : ℕ) (bytes : List ℕ) (ignored
       (placed_on (msrc_place regs.msrctimeout) _ d _
       (read_on _ _ _ _ refl
       (placed_on (period_place regs.finalperiod) _ d _ (placed_on (result_err (msrc_time regs)) _ d _ (placed_on (result_err (pre_time regs)) _ d _ (placed_on (result_err (final_time regs)) _ d _ (end_on d budget ignored (word rules regs budget))))))))))))))))
-      ∙ ordered d _ _ _ _ _ _ (λ p. by_result d budget (word_after p regs (record { 0 = budget }) (dss_of rules))) (λ p. refl) _ _ _ _ _ _ _ _ _
+      ∙ ordered d _ _ _ _ _ _ (λ p. by_result d budget (word_after p regs (record { 0 = budget }) (dss_term_of rules))) (λ p. refl) _ _ _ _ _ _ _ _ _
 
   -- below 20,000 nothing is sent
   from_the_test : (t : Bool)

@@ -80,9 +80,6 @@ pub record HeldValues (rules : Rules) : Type 0 where
   pub no_period_mode : replied1 rules (held 4 0 0 8 9 (0x12 ∷ 0x34 ∷ [])) 0 ≡ sent (transfer_of 0x29 (0x00 ∷ 0x02 ∷ []) 1) (held 4 0 0 9 10 (0x12 ∷ 0x34 ∷ []))
   -- SCOPE 5.1, call 11: low × 65536 + high
   pub pair : reply_def rules (held 11 0 0 1 2 (0x00 ∷ 0x96 ∷ [])) 0 (0x0F ∷ 0xFF ∷ 0 ∷ 0 ∷ 0 ∷ 0 ∷ []) ≡ answered (Answer.Done (300 * 65536 + 8190)) 2 (resting (held 11 0 0 1 2 []).driver)
-  -- a count at the ceiling passes 15, and is over it one transfer later
-  pub at_ceiling : replied1 rules (held 4 0 0 0 10 []) 0 ≡ sent (transfer_of 0x29 (0xFF ∷ 0x01 ∷ []) 1) (held 4 0 0 1 11 [])
-  pub over_ceiling : replied1 rules (held 4 0 0 1 11 []) 0 ≡ broken (held 4 0 0 1 11 [])
 
 -- a session that is up and rests
 abbrev pub standing : Session
@@ -92,12 +89,28 @@ standing = resting (record { up = true; address = 0x29; stop = 0x3C; budget = 31
 abbrev pub refusal_of : Rules → ℕ × ℕ × ℕ → ℕ
 refusal_of rules x = refusal_number (step_def rules standing (call x.0 x.1 x.2))
 
--- SCOPE 2.6: the codes at the edges of the range, and the ceilings of the calls that wait. By the first rules these never change
-pub record RulesValues : Type 0 where
-  pub by_first : map (refusal_of Rules.First) ((0, 0, 0) ∷ (2, 0, 0) ∷ (15, 0, 0) ∷ (16, 0, 0) ∷ []) ≡ 13 ∷ 0 ∷ 0 ∷ 13 ∷ []
-  pub by_current : map (refusal_of Rules.Current) ((0, 0, 0) ∷ (2, 0, 0) ∷ (15, 0, 0) ∷ (16, 0, 0) ∷ []) ≡ 13 ∷ 0 ∷ 0 ∷ 13 ∷ []
-  pub most_by_first : map (ceiling_of Rules.First) (1 ∷ 7 ∷ 8 ∷ []) ≡ 85688 ∷ 10003 ∷ 20011 ∷ []
-  pub most_by_current : map (ceiling_of Rules.Current) (1 ∷ 7 ∷ 8 ∷ []) ≡ 85688 ∷ 10003 ∷ 20011 ∷ []
+-- codes at the edges of 1 to 15, with the arguments 0, and all of these
+abbrev pub edge_codes : List (ℕ × ℕ × ℕ)
+edge_codes = (0, 0, 0) ∷ (2, 0, 0) ∷ (15, 0, 0) ∷ (16, 0, 0) ∷ []
+
+abbrev pub codes_1_to_15 : List ℕ
+codes_1_to_15 = 1 ∷ 2 ∷ 3 ∷ 4 ∷ 5 ∷ 6 ∷ 7 ∷ 8 ∷ 9 ∷ 10 ∷ 11 ∷ 12 ∷ 13 ∷ 14 ∷ 15 ∷ []
+
+-- SCOPE 2.6: what goes by the rules: which codes are calls', the ceilings, and what answer 15 makes of them. A count at
+-- the ceiling passes 15, and is over it one transfer later; a session that waits past the last code is ill-formed. Those of the first rules never change
+pub record FirstValues : Type 0 where
+  pub codes : map (refusal_of Rules.First) edge_codes ≡ 13 ∷ 0 ∷ 0 ∷ 13 ∷ []
+  pub ceilings : map (ceiling_of Rules.First) codes_1_to_15 ≡ 85688 ∷ 1 ∷ 1 ∷ 10 ∷ 6 ∷ 4 ∷ 10003 ∷ 20011 ∷ 7 ∷ 2 ∷ 2 ∷ 5 ∷ 2 ∷ 1 ∷ 6 ∷ []
+  pub at_ceiling : replied1 Rules.First (held 4 0 0 0 10 []) 0 ≡ sent (transfer_of 0x29 (0xFF ∷ 0x01 ∷ []) 1) (held 4 0 0 1 11 [])
+  pub over_ceiling : replied1 Rules.First (held 4 0 0 1 11 []) 0 ≡ broken (held 4 0 0 1 11 [])
+  pub past_the_last : replied1 Rules.First (held 16 0 0 0 1 []) 0 ≡ broken (held 16 0 0 0 1 [])
+
+pub record CurrentValues : Type 0 where
+  pub codes : map (refusal_of Rules.Current) edge_codes ≡ 13 ∷ 0 ∷ 0 ∷ 13 ∷ []
+  pub ceilings : map (ceiling_of Rules.Current) codes_1_to_15 ≡ 85688 ∷ 1 ∷ 1 ∷ 10 ∷ 6 ∷ 4 ∷ 10003 ∷ 20011 ∷ 7 ∷ 2 ∷ 2 ∷ 5 ∷ 2 ∷ 1 ∷ 6 ∷ []
+  pub at_ceiling : replied1 Rules.Current (held 4 0 0 0 10 []) 0 ≡ sent (transfer_of 0x29 (0xFF ∷ 0x01 ∷ []) 1) (held 4 0 0 1 11 [])
+  pub over_ceiling : replied1 Rules.Current (held 4 0 0 1 11 []) 0 ≡ broken (held 4 0 0 1 11 [])
+  pub past_the_last : replied1 Rules.Current (held 16 0 0 0 1 []) 0 ≡ broken (held 16 0 0 0 1 [])
 
 -- SCOPE 7.2: the edges of the argument ranges, and arguments that are not used
 pub record EdgeValues (rules : Rules) : Type 0 where
@@ -134,7 +147,7 @@ refused_history =
     ∷ record { what = call 2 0 0; got = refusal Answer.NotUp }
     ∷ []
 
--- by the rules of each
+-- by each of the rules
 pub record SessionValues (rules : Rules) : Type 0 where
   pub answers : AnswerValues
   pub carried : CarriedPlaces rules

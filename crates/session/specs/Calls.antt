@@ -6,7 +6,7 @@ use Rattle.budget.specs.declared.DssTerm.{DssTerm}
 use Rattle.session.specs.declared.Setting.{Setting}
 use Rattle.session.specs.Bus.{byte, Condition, Driver, with_driver_address, with_driver_budget}
 use Rattle.session.specs.declared.Rules.{Rules}
-use Rattle.session.specs.Rules.{dss_of, tries_of}
+use Rattle.session.specs.Rules.{dss_term_of, tries_of}
 use Rattle.session.specs.Instructions.{Instruction, Context, declines, wrong_address, wrong_argument, Verdict, onward, stop, test, Op, Final, success, failure, identity_slot, stop_slot, mask_slot, spad_slot, range_slot, timing_slot, second_slot}
 use Rattle.budget.specs.Budget.{too_short}
 use Rattle.session.specs.Steps.{slot, slot_word, pass, address_in, low_in, op_of}
@@ -286,8 +286,8 @@ nothing = record { greatest_a = 0; greatest_b = 0; ceiling = 0; entry = pass; st
 -- `top_code`
 unfoldable pub programs : Rules → List Program
 programs rules =
-    nothing ∷ with_address_call (dss_of rules) ∷ who_am_i_call ∷ set_address_call ∷ start_continuous_call ∷ stop_continuous_call ∷ read_range_mm_call ∷ read_range_continuous_call
-    ∷ read_range_single_call ∷ set_budget_call (dss_of rules) ∷ set_thresholds_call ∷ get_thresholds_call ∷ set_gpio_config_call ∷ clear_interrupt_status_call ∷ set_signal_rate_limit_call ∷ get_budget_call ∷ []
+    nothing ∷ with_address_call (dss_term_of rules) ∷ who_am_i_call ∷ set_address_call ∷ start_continuous_call ∷ stop_continuous_call ∷ read_range_mm_call ∷ read_range_continuous_call
+    ∷ read_range_single_call ∷ set_budget_call (dss_term_of rules) ∷ set_thresholds_call ∷ get_thresholds_call ∷ set_gpio_config_call ∷ clear_interrupt_status_call ∷ set_signal_rate_limit_call ∷ get_budget_call ∷ []
 
 unfoldable pub program_of : Rules → ℕ → Program
 program_of rules code = get_or (programs rules) code nothing

@@ -33,7 +33,7 @@ asks reg t = wrote (reg ∷ []) t && eqb t.reads 1
 unfoldable pub most_in : ℕ → ℕ
 most_in code = get_or (0 ∷ 85688 ∷ 1 ∷ 1 ∷ 10 ∷ 6 ∷ 4 ∷ 10003 ∷ 20011 ∷ 7 ∷ 2 ∷ 2 ∷ 5 ∷ 2 ∷ 1 ∷ 6 ∷ []) code 0
 
--- SCOPE 2.6: how often each of them is made at most, by the rules
+-- SCOPE 2.6: how often a transfer is made at most, by the rules
 abbrev pub times_in : Rules → ℕ
 times_in Rules.First = 1
 times_in Rules.Current = 1
@@ -322,6 +322,6 @@ LastIdle zero x code es = Unit {0}
 LastIdle (suc n) x code [] = ⊥
 LastIdle (suc n) x code (e ∷ es) = T (read_of x code e.sent es && idle_reply x e.reply) × LastIdle n x code es
 
--- a bring-up that is answered Done has made 149 to 85,688 transfers, each once
+-- a bring-up that is answered Done has made 149 transfers at least, and 85,688 at most, or as often as many as the rules have each made
 abbrev pub BringUpCount : Rules → CallRun → Type 0
 BringUpCount rules c = c.code ≡ 1 → is_done c.standing ≡ true → (149 ≤ transfers_of c) × (transfers_of c ≤ times_in rules * 85688)

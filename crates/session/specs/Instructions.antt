@@ -1,5 +1,5 @@
 -- What an instruction is: a transfer, what is kept of its reply, and what a good reply decides.
--- The machine and the proofs go through a call by these rules alone.
+-- The machine and the proofs go through a call by these definitions alone.
 use Rattle.std.specs.Prelude.{Bool, true, false, cond, List, [], ◌∷◌, ℕ, zero, suc, ◌+◌, eqb}
 use Rattle.std.proofs.lemmas.List.Edits.{sets}
 use Rattle.timing.specs.declared.TimingRegisters.{TimingRegisters}

@@ -1,4 +1,5 @@
--- In the order of belief. First what a reader has to believe: the bus, records of bytes, and the table of refusals
+-- In the order of belief. Everything that goes by the rules takes them first (`Rules`, in src/lib.rt; SCOPE 2.6), and each text says by itself what
+-- they change in it. First what a reader has to believe: the bus, records of bytes, and the table of refusals
 pub mod Bus
 pub mod Records
 pub mod Refusals

@@ -62,7 +62,7 @@ by_result d budget (Ok w) =
 by_result d budget (Err NoWord.NoTime) = ends Answer.False d
 by_result d budget (Err (NoWord.Panic p)) = ends (Answer.Panic (place_number p)) d
 
--- SCOPE 5.4: call 9 counts DSS as 2 × MSRC's time + 690. SCOPE 2.6: by the rules
+-- SCOPE 2.6, SCOPE 5.4: how call 9 counts DSS
 abbrev pub dss_counted : Rules → DssTerm
 dss_counted Rules.First = DssTerm.Once
 dss_counted Rules.Current = DssTerm.Once

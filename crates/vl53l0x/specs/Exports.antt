@@ -12,7 +12,7 @@ use Rattle.records.specs.Records.{record_in}
 use Rattle.layout.specs.Layout.{session_size, outcome_size, session_bytes, is_session, session_of, transfer_bytes, refusal_bytes, outcome_bytes}
 use Rattle.layout.specs.RoundTrip.{are_bytes}
 
--- what a session is given for a record
+-- what a session is given for a record. SCOPE 2.6: here and below by the current rules
 unfoldable pub met : List ℕ → List ℕ → Outcome
 met session bytes = outcome_of (step_def Rules.Current (session_of session) (record_in bytes))
 

@@ -6,4 +6,4 @@ use Rattle.calls.proofs.instruction_at.Goals as goal
 
 pub returns-in-1 : goal.returns-in-1
 unfolding instruction_at program_of programs
-returns-in-1 c = rw c.in-1.is (c.with_address.ensures ∙ ap (λ d. step_of (bring_up_steps d) c.args.step) c.dss_of.ensures)
+returns-in-1 c = rw c.in-1.is (c.with_address.ensures ∙ ap (λ d. step_of (bring_up_steps d) c.args.step) c.dss_term_of.ensures)

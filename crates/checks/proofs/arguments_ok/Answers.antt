@@ -1,5 +1,5 @@
 -- `checks::arguments_ok` meets its contract.
-use mathlib.Core.Path.{refl, sym}
+use mathlib.Core.Path.{refl}
 use borrow.Author.Tests.{le-leb, lt-leb}
 use Rattle.calls.specs.Calls.{facts_of}
 use Rattle.checks.proofs.Places.{arguments_are}

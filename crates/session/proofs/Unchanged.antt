@@ -1,4 +1,4 @@
--- What the rules do not change of a call: all but its instructions, and how many these are.
+-- What the rules do not change of a call. Its instructions may be other ones, their number is not.
 use mathlib.Core.Path.{◌≡◌, refl, sym, ap, ◌∙◌}
 use mathlib.Core.List.{map}
 use Prim.Native.Nat.{ℕ}
