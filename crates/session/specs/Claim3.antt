@@ -322,6 +322,6 @@ LastIdle zero x code es = Unit {0}
 LastIdle (suc n) x code [] = ⊥
 LastIdle (suc n) x code (e ∷ es) = T (read_of x code e.sent es && idle_reply x e.reply) × LastIdle n x code es
 
--- a bring-up that is answered Done has made 149 transfers at least, and 85,688 at most, or as often as many as the rules have each made
+-- a bring-up that is answered Done has made 149 transfers at least, and at most 85,688 for each time that the rules let a transfer be made
 abbrev pub BringUpCount : Rules → CallRun → Type 0
 BringUpCount rules c = c.code ≡ 1 → is_done c.standing ≡ true → (149 ≤ transfers_of c) × (transfers_of c ≤ times_in rules * 85688)
