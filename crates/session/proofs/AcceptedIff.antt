@@ -9,6 +9,7 @@ use native.Mathlib.Omega.{arith}
 use lib.Dec.{eqb, ltb, leb}
 use lib.ListN.{length, get_or, take, drop}
 use borrow.Author.Tests.{leb-true, leb-false, ltb-true, le-leb, lt-leb, lt-ltb, le-ltb, eqb-true, eqb-false, not-false}
+use Rattle.std.proofs.lemmas.List.{length-take-le, get_or-take}
 use Rattle.session.specs.declared.Rules.{Rules}
 use Rattle.session.specs.Records.{call}
 use Rattle.session.specs.History.{step_def}
@@ -86,18 +87,6 @@ below_next k n = go (leb k n) refl
     go false e = let l : n < k = leb-false k n e in sym (le-ltb k (suc n) (omega arith))
 
 -- programs past the last code that the rules have make no difference
-length_take : (n : ℕ) (ps : List Program) → n ≤ length ps → length (take n ps) ≡ n
-length_take zero ps h = refl
-length_take (suc n) [] h = absurd (omega (arith, h))
-length_take (suc n) (p ∷ ps) h = ap suc (length_take n ps (omega (arith, h)))
-
-get_take : (n k : ℕ) (ps : List Program) → k < n → get_or (take n ps) k nothing ≡ get_or ps k nothing
-get_take zero k ps h = absurd (omega (arith, h))
-get_take (suc n) zero [] h = refl
-get_take (suc n) (suc k) [] h = refl
-get_take (suc n) zero (p ∷ ps) h = refl
-get_take (suc n) (suc k) (p ∷ ps) h = get_take n k ps (omega (arith, h))
-
 of_those : (n : ℕ) (ps : List Program) (code a b : ℕ) → n ≤ length ps
     → (leb 1 code && ltb code (suc n)) && (leb a (get_or ps (code - 1) nothing).greatest_a && leb b (get_or ps (code - 1) nothing).greatest_b)
     ≡ within 1 (take n ps) code a b
@@ -109,14 +98,14 @@ of_those n ps code a b h = go (leb 1 code) refl (ltb code (suc n)) refl
     same true true e e' =
         let l : 1 ≤ code = leb-true 1 code e in
         let u : code < suc n = ltb-true code (suc n) e' in
-        rw (get_take n (code - 1) ps (omega (arith, l, u)))
+        rw (get_or-take n ps (code - 1) nothing (omega (arith, l, u)))
     same true false e e' = refl
     same false y e e' = refl
 
     go : (x : Bool) → leb 1 code ≡ x → (y : Bool) → ltb code (suc n) ≡ y
         → (leb 1 code && ltb code (suc n)) && (leb a (get_or ps (code - 1) nothing).greatest_a && leb b (get_or ps (code - 1) nothing).greatest_b)
         ≡ within 1 (take n ps) code a b
-    go x e y e' = let one : 1 + n ≡ suc n = omega arith in rw (length_take n ps h, one, e, e') (same x y e e')
+    go x e y e' = let one : 1 + n ≡ suc n = omega arith in rw (length-take-le n ps h, one, e, e') (same x y e e')
 
 -- the arguments that 13 lets pass are those of the table of refusals
 abbrev called : Rules → List Program
