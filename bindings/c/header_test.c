@@ -24,6 +24,7 @@ static void records(void)
     vl53l0x_put_failure(record, 0);
     CHECK(same(record, no_kind, sizeof no_kind));
     CHECK(vl53l0x_float_bits(0.25f) == 0x3E800000);
+    CHECK(vl53l0x_float_from_bits(0x3E800000) == 0.25f);
 }
 
 static void outcomes(void)
@@ -158,6 +159,8 @@ static void numbers(void)
     CHECK(begin(session, VL53L0X_SET_SIGNAL_RATE_LIMIT, vl53l0x_float_bits(-1.0f), 0) == VL53L0X_FALSE);
     CHECK(begin(session, VL53L0X_SET_SIGNAL_RATE_LIMIT, vl53l0x_float_bits(512.0f), 0) == VL53L0X_FALSE);
     CHECK(begin(session, VL53L0X_SET_SIGNAL_RATE_LIMIT, 0x7FC00000 /* a NaN */, 0) == VL53L0X_FALSE);
+    CHECK(begin(session, VL53L0X_GET_SIGNAL_RATE_LIMIT, 1, 0) == VL53L0X_ILL_FORMED_RECORD);
+    CHECK(begin(session, VL53L0X_GET_SIGNAL_RATE_LIMIT, 0, 1) == VL53L0X_ILL_FORMED_RECORD);
     CHECK(begin(session, VL53L0X_SET_GPIO_CONFIG, VL53L0X_OUT_OF_WINDOW + 1, 0) == VL53L0X_ILL_FORMED_RECORD);
     CHECK(begin(session, VL53L0X_SET_GPIO_CONFIG, 0, VL53L0X_ACTIVE_HIGH + 1) == VL53L0X_ILL_FORMED_RECORD);
     CHECK(begin(session, VL53L0X_READ_RANGE_MM, 0, 0) == VL53L0X_TRANSFER);
@@ -203,6 +206,7 @@ static void calls(void)
     CHECK(writes(VL53L0X_SET_GPIO_CONFIG, VL53L0X_OUT_OF_WINDOW, VL53L0X_ACTIVE_HIGH, 2, 0x84, 0x10));
     CHECK(writes(VL53L0X_CLEAR_INTERRUPT_STATUS, 0, 0, 0, 0x0B, 0x01));
     CHECK(writes(VL53L0X_SET_SIGNAL_RATE_LIMIT, vl53l0x_float_bits(2.0f), 0, 0, 0x44, 0x01));
+    CHECK(writes(VL53L0X_GET_SIGNAL_RATE_LIMIT, 0, 0, 0, 0x44, 0));
 }
 
 /* The status is read 10,000 times and shows no reading. */
@@ -280,6 +284,7 @@ static void replies(void)
     reply_counts(VL53L0X_SET_ADDRESS, 0x30, 0);
     reply_counts(VL53L0X_WHO_AM_I, 0, 1);
     reply_counts(VL53L0X_GET_INTERRUPT_THRESHOLDS_MM, 0, 2);
+    reply_counts(VL53L0X_GET_SIGNAL_RATE_LIMIT, 0, 2);
     reply_counts(VL53L0X_WITH_ADDRESS, VL53L0X_DEFAULT_ADDRESS, 6);
     no_reply_to_an_answer();
 }

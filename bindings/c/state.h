@@ -33,7 +33,8 @@ static const struct {
                  {VL53L0X_SET_GPIO_CONFIG, VL53L0X_OUT_OF_WINDOW, VL53L0X_ACTIVE_HIGH},
                  {VL53L0X_CLEAR_INTERRUPT_STATUS, 0, 0},
                  {VL53L0X_SET_SIGNAL_RATE_LIMIT, 0x3E800000, 0},
-                 {VL53L0X_GET_MEASUREMENT_TIMING_BUDGET, 0, 0}};
+                 {VL53L0X_GET_MEASUREMENT_TIMING_BUDGET, 0, 0},
+                 {VL53L0X_GET_SIGNAL_RATE_LIMIT, 0, 0}};
 
 enum { ALL_CALLS = sizeof all_calls / sizeof *all_calls };
 

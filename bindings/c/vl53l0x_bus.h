@@ -24,7 +24,8 @@
  *     later. The next single reading then answers at once with the old distance. Its own measurement ends after that,
  *     so the reading after it may be one behind too, and so on.
  *   - A single reading, a start or a stop that broke may leave page 1 of the registers selected. What the next call
- *     sets goes to other registers; it is Done, and the sensor has not taken it.
+ *     sets goes to other registers; it is Done, and the sensor has not taken it. A window or a limit that is read back
+ *     then comes from those registers too, and is the one that was set.
  *   - A bring-up that broke may leave another page selected too. Every bring-up after it is VL53L0X_INVALID_DEVICE.
  *
  * What to do. Each step has to be Done; where one is not, begin with the first again. "By hand" is

@@ -1,4 +1,4 @@
-//! The calls, as records (SCOPE 7.1) and as calls of the Rust.
+//! The calls, as records (SCOPE 7.1) and as calls of the Rust; those after lib.rs's own as calls of later.rs.
 
 use crate::bus::ADDRESS;
 use crate::place::run;
@@ -27,6 +27,7 @@ pub enum Call {
     ClearInterruptStatus,
     SetSignalRateLimit(u32),
     GetBudget,
+    GetSignalRateLimit,
 }
 
 /// A call of each code, in order, from 1 on.
@@ -46,11 +47,15 @@ const LIST: &[Call] = &[
     Call::ClearInterruptStatus,
     Call::SetSignalRateLimit(0x3E80_0000),
     Call::GetBudget,
+    Call::GetSignalRateLimit,
 ];
 
 /// The same as an array, with as many as the list has.
 pub const CALLS: [Call; LIST.len()] = *LIST.first_chunk().unwrap();
 pub const LAST_CODE: u8 = LIST.len() as u8;
+
+/// The last code of a call that lib.rs has.
+pub const LAST_OF_LIB: u8 = 15;
 
 /// Each at its number in SCOPE 5.10.
 pub const FUNCTIONALITIES: [GpioFunctionality; 4] = [
@@ -83,6 +88,7 @@ impl Call {
             Call::ClearInterruptStatus => (13, 0, 0),
             Call::SetSignalRateLimit(bits) => (14, bits, 0),
             Call::GetBudget => (15, 0, 0),
+            Call::GetSignalRateLimit => (16, 0, 0),
         };
         let ([a, b, c, d], [e, f]) = (u32::to_be_bytes(a), u16::to_be_bytes(b));
         [1, code, a, b, c, d, e, f]
@@ -106,6 +112,7 @@ impl Call {
             (13, 0, 0) => Call::ClearInterruptStatus,
             (14, _, 0) => Call::SetSignalRateLimit(a),
             (15, 0, 0) => Call::GetBudget,
+            (16, 0, 0) => Call::GetSignalRateLimit,
             _ => return None,
         })
     }
@@ -189,5 +196,6 @@ fn on_chip<I2C: I2c<Error = u8>>(chip: &mut VL53L0x<I2C>, call: Call) -> Answer 
         Call::ClearInterruptStatus => done(chip.clear_interrupt_status().map_err(Error::BusError)),
         Call::SetSignalRateLimit(bits) => accepted(inner::set_signal_rate_limit(chip, f32::from_bits(bits))),
         Call::GetBudget => on_bus(inner::get_measurement_timing_budget(chip)),
+        Call::GetSignalRateLimit => on_bus(inner::get_signal_rate_limit(chip).map(f32::to_bits)),
     }
 }

@@ -1,4 +1,4 @@
-/// The private functions and fields of the file above, reached from outside.
+/// The private functions and fields of lib.rs, and the calls of later.rs, which both stand above; reached from outside.
 pub mod inner {
     use crate::{I2c, VL53L0x};
 
@@ -40,6 +40,11 @@ pub mod inner {
     /// `set_signal_rate_limit`
     pub fn set_signal_rate_limit<I2C: I2c>(driver: &mut VL53L0x<I2C>, limit: f32) -> Result<bool, I2C::Error> {
         driver.set_signal_rate_limit(limit)
+    }
+
+    /// `get_signal_rate_limit`, of later.rs
+    pub fn get_signal_rate_limit<I2C: I2c>(driver: &mut VL53L0x<I2C>) -> Result<f32, I2C::Error> {
+        driver.get_signal_rate_limit()
     }
 
     /// `get_measurement_timing_budget`

@@ -11,6 +11,7 @@ mod call;
 mod calm_sensor;
 mod clock;
 mod history;
+mod later_cases;
 mod list;
 mod numbers;
 mod place;

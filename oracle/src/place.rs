@@ -36,7 +36,7 @@ const fn at(line: u32, message: &'static str, place: u8) -> Panic {
     Panic { line, message, place }
 }
 
-/// Every panic that lib.rs can reach.
+/// Every panic that lib.rs can reach. What is appended to lib.rs has the lines after its last, and no place of its own.
 pub const PANICS: [Panic; 12] = [
     at(278, MULTIPLY, 1),  // start_continuous
     at(983, SHIFT, 2),     // decode_timeout
@@ -51,6 +51,24 @@ pub const PANICS: [Panic; 12] = [
     at(1023, DIVIDE, 8),
     at(799, ADD, 9), // set_measurement_timing_budget
 ];
+
+const _: () = {
+    let last = lines(include_str!("../vendor/lib.rs"));
+    let mut index = 0;
+    while index < PANICS.len() {
+        assert!(PANICS[index].line <= last, "a place is not in lib.rs");
+        index += 1;
+    }
+};
+
+const fn lines(text: &str) -> u32 {
+    let (bytes, mut index, mut count) = (text.as_bytes(), 0, 0);
+    while index < bytes.len() {
+        count += (bytes[index] == b'\n') as u32;
+        index += 1;
+    }
+    count
+}
 
 thread_local! {
     static EXPECTED: Cell<bool> = const { Cell::new(false) };

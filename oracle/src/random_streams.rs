@@ -1,18 +1,19 @@
 //! Streams of pseudo-random scenarios: calm and bad sensors, refused records in between, and any end.
 
 use crate::budget_cases::{random_case, replies, Case, BENCH};
-use crate::call::{Call, Record, CALLS};
+use crate::call::{Call, Record, CALLS, LAST_CODE};
 use crate::calm_sensor::CalmSensor;
+use crate::later_cases::read_and_set;
 use crate::numbers::Numbers;
-use crate::random_traces::{call, failure_code, on};
+use crate::random_traces::{call_up_to, failure_code, on};
 use crate::refused::Refusing;
 use crate::stream::{Files, Stream};
 use crate::stream_cases::{bring_up_budget, RANGE_READS, WAITS};
 use crate::trace_cases::{silent, timing};
 use crate::{rate, threshold};
 
-const SCENARIOS: [fn(&mut Stream, &mut Numbers); 7] =
-    [calm_session, bad_session, failed_transfer, failed_range_read, budget, budget_in_bring_up, arguments];
+const SCENARIOS: [fn(&mut Stream, &mut Numbers); 8] =
+    [calm_session, bad_session, failed_transfer, failed_range_read, budget, budget_in_bring_up, arguments, rate_limits];
 
 /// Some scenarios; now and then a long wait, a cut, records without a plan; any number of spare bytes.
 pub fn files() -> Files {
@@ -39,6 +40,11 @@ pub fn files() -> Files {
     }
     (0..numbers.below(8)).for_each(|_| tail.push(numbers.byte()));
     stream.files(&tail)
+}
+
+/// Any call but a bring-up.
+fn call(numbers: &mut Numbers) -> Call {
+    call_up_to(LAST_CODE, numbers)
 }
 
 /// A driver that is up, often by a new bring-up, and a sensor for it.
@@ -120,6 +126,15 @@ fn arguments(stream: &mut Stream, numbers: &mut Numbers) {
             _ => Call::SetSignalRateLimit(numbers.one_of(&rate::edges())),
         };
         stream.call(call, sensor.failing(&[]));
+    }
+}
+
+/// Rate limits that are read, and set as they were answered.
+fn rate_limits(stream: &mut Stream, numbers: &mut Numbers) {
+    up(stream, numbers);
+    for _ in 0..numbers.below(10) {
+        let word = if numbers.one_in(4) { numbers.one_of(&rate::WORDS) } else { numbers.below(65536) as u16 };
+        stream.play(read_and_set(stream.trace(), word));
     }
 }
 

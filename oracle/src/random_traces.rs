@@ -1,6 +1,6 @@
 //! Pseudo-random runs.
 
-use crate::call::{Call, CALLS, FUNCTIONALITIES, POLARITIES};
+use crate::call::{Call, CALLS, FUNCTIONALITIES, LAST_OF_LIB, POLARITIES};
 use crate::numbers::Numbers;
 use crate::traces::Trace;
 use vl53l0x::inner::Fields;
@@ -22,9 +22,9 @@ fn reply(numbers: &mut Numbers, written: &[u8], read: &mut [u8]) {
     }
 }
 
-/// Any call but a bring-up.
-pub fn call(numbers: &mut Numbers) -> Call {
-    match numbers.one_of(&CALLS[1..]) {
+/// Any call but a bring-up, with a code up to `last`.
+pub fn call_up_to(last: u8, numbers: &mut Numbers) -> Call {
+    match numbers.one_of(&CALLS[1..last.into()]) {
         Call::WithAddress(_) => unreachable!("is the first"),
         Call::SetAddress(_) => Call::SetAddress(numbers.byte()),
         Call::StartContinuous(_) => Call::StartContinuous(numbers.spread(32)),
@@ -37,6 +37,7 @@ pub fn call(numbers: &mut Numbers) -> Call {
         }
         call @ (Call::WhoAmI | Call::StopContinuous | Call::ReadRange | Call::ReadRangeContinuous) => call,
         call @ (Call::ReadRangeSingle | Call::GetThresholds | Call::ClearInterruptStatus | Call::GetBudget) => call,
+        call @ Call::GetSignalRateLimit => call,
     }
 }
 
@@ -55,7 +56,7 @@ pub fn on(trace: Trace, call: Call, numbers: &mut Numbers, odds: u32) -> Trace {
     })
 }
 
-/// Several calls on each of a few drivers.
+/// Several of lib.rs's own calls on each of a few drivers.
 pub fn calls() -> Vec<Trace> {
     let mut numbers = Numbers::new(6);
     let mut traces = Vec::new();
@@ -67,7 +68,7 @@ pub fn calls() -> Vec<Trace> {
         };
         let mut trace = Trace::new(format!("random{index}"), Some(fields));
         while trace.steps.len() < 24 {
-            let call = call(&mut numbers);
+            let call = call_up_to(LAST_OF_LIB, &mut numbers);
             trace = on(trace, call, &mut numbers, 25);
         }
         traces.push(trace);

@@ -1,10 +1,14 @@
-//! The signal rate limit, a float, as the word that is written.
+//! The signal rate limit, a float: as the word that is written, and of a word that is read.
 
-use crate::bus::{Bus, FRESH};
+use crate::bus::{Bus, Transfer, ADDRESS, FRESH};
 use crate::bytes::hex;
 use crate::list::{Kind, List};
 use crate::numbers::Numbers;
-use vl53l0x::inner::{driver, set_signal_rate_limit};
+use vl53l0x::inner::{driver, get_signal_rate_limit, set_signal_rate_limit};
+
+/// Words to read: 0, powers of two and their neighbours, the highest, and two with unequal bytes.
+pub const WORDS: [u16; 19] =
+    [0, 1, 2, 32, 127, 128, 129, 255, 256, 257, 0x1234, 0x3412, 32767, 32768, 32769, 65408, 65533, 65534, 65535];
 
 /// The word written, or none if the limit is refused.
 fn word(bits: u32) -> Option<u16> {
@@ -17,8 +21,24 @@ fn word(bits: u32) -> Option<u16> {
     }
 }
 
+/// The bits of the limit that a word is read as.
+fn read(word: u16) -> u32 {
+    let mut bus = Bus::new(|_: &[u8], read: &mut [u8]| {
+        read.copy_from_slice(&word.to_be_bytes());
+        Ok(())
+    });
+    let limit = get_signal_rate_limit(&mut driver(&mut bus, FRESH)).expect("no failure");
+    let [Transfer { address: ADDRESS, written, read: 2 }] = &bus.transfers[..] else {
+        panic!("{:02X?}", bus.transfers)
+    };
+    assert_eq!(written, &[0x44]);
+    limit.to_bits()
+}
+
 pub fn list() -> List {
     let mut list = List::new("rate");
+    list.rows("get_signal_rate_limit", 65536, |word| hex(&read(word as u16).to_be_bytes()));
+    bench();
     for bits in edges() {
         record(&mut list, bits);
     }
@@ -37,6 +57,14 @@ pub fn list() -> List {
         list.must_have(line);
     }
     list
+}
+
+/// Values of limits that are read; and set again, each but the last gives its word.
+fn bench() {
+    let bits = [0x00000000, 0x3C000000, 0x3E800000, 0x3F800000, 0x43FFFE00, 0x43FFFF00];
+    assert_eq!([0, 1, 32, 128, 65534, 65535].map(read), bits);
+    assert!((0..65535).all(|limit| word(read(limit)) == Some(limit)));
+    assert_eq!(word(read(65535)), None);
 }
 
 fn record(list: &mut List, bits: u32) {

@@ -79,6 +79,7 @@ fn arguments(call: Call) -> &'static [usize] {
         Call::SetGpioConfig(..) => &[5, 7],
         Call::WhoAmI | Call::StopContinuous | Call::ReadRange | Call::ReadRangeContinuous => &[],
         Call::ReadRangeSingle | Call::GetThresholds | Call::ClearInterruptStatus | Call::GetBudget => &[],
+        Call::GetSignalRateLimit => &[],
     }
 }
 

@@ -6,6 +6,7 @@ use crate::bus::ADDRESS;
 use crate::bytes::with;
 use crate::call::{Answer, Call, CALLS, FUNCTIONALITIES, POLARITIES};
 use crate::calm_sensor::CalmSensor;
+use crate::later_cases::read_and_set;
 use crate::numbers::Numbers;
 use crate::refused::Refusing;
 use crate::stream::{Files, Stream};
@@ -24,6 +25,7 @@ pub fn files() -> Files {
     traced_runs(&mut stream);
     addresses(&mut stream, numbers);
     arguments(&mut stream, numbers);
+    rate_limits(&mut stream, numbers);
     periods(&mut stream);
     budgets(&mut stream);
     bring_up_budgets(&mut stream);
@@ -172,6 +174,16 @@ fn arguments(stream: &mut Stream, numbers: &mut Numbers) {
                 stream.play(stream.trace().call(Call::SetGpioConfig(functionality, polarity), pins));
             }
         }
+    }
+}
+
+/// The rate limit that a bring-up leaves; then words at every edge, read by call 16, and what it answered set by call 14.
+fn rate_limits(stream: &mut Stream, numbers: &mut Numbers) {
+    let mut sensor = CalmSensor::new(numbers.split());
+    done(stream, BRING_UP, &mut sensor);
+    assert_eq!(stream.call(Call::GetSignalRateLimit, sensor.failing(&[])), Answer(0, 0x3E80_0000));
+    for word in rate::WORDS {
+        stream.play(read_and_set(stream.trace(), word));
     }
 }
 

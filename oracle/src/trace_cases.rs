@@ -4,7 +4,8 @@ use crate::antt::File;
 use crate::budget::Replies;
 use crate::budget_cases::BENCH;
 use crate::bus::ADDRESS;
-use crate::call::{Answer, Call, LAST_CODE};
+use crate::call::{Answer, Call, LAST_CODE, LAST_OF_LIB};
+use crate::later_cases::later_calls;
 use crate::random_traces as random;
 use crate::traces::{Line, Sensor, Trace};
 use std::collections::BTreeSet;
@@ -63,10 +64,15 @@ pub fn files() -> Vec<File> {
     let loud = Trace::new("loud", None).call(Call::WithAddress(0xFF), loud()).answered(0, 0);
     let file = |module, about: &str, list, traces| File { module, about: about.to_string(), list, traces };
     let measuring = file("Measuring", "Calls 2 to 8, answered Done.", "measuring", measuring(up));
-    let about = format!("Calls 9 to {LAST_CODE}, answered Done.");
+    let about = format!("Calls 9 to {LAST_OF_LIB}, answered Done.");
     let settings = file("Settings", &about, "settings", settings(up));
-    assert!(done([&measuring, &settings]).into_iter().eq(2..=LAST_CODE), "a call has no run that is answered Done");
-    vec![
+    let about = "Calls that lib.rs does not have, as later.rs makes them.";
+    let later = file("LaterCalls", about, "later_calls", later_calls(up));
+    let mut done = answers([&measuring, &settings, &later]);
+    done.retain(|(_, number)| *number == 0);
+    let done: BTreeSet<u8> = done.into_iter().map(|(code, _)| code).collect();
+    assert!(done.into_iter().eq(2..=LAST_CODE), "a call has no run that is answered Done");
+    let of_lib = vec![
         file("BringUp", "Bring-ups that succeed.", "bring_ups", vec![calm, loud]),
         file("InUse", "A bring-up and many calls after it.", "in_use", vec![in_use()]),
         measuring,
@@ -80,21 +86,24 @@ pub fn files() -> Vec<File> {
         file("AtOnce", "Calls that are answered without a transfer.", "at_once", at_once(up)),
         file("Random", "Calls with pseudo-random arguments, replies and failures.", "random", random::calls()),
         file("RandomBringUp", "Bring-ups with pseudo-random replies.", "random_bring_ups", random::bring_ups()),
-    ]
+    ];
+    let only_its_own = answers(&of_lib).iter().all(|(code, _)| *code <= LAST_OF_LIB);
+    assert!(only_its_own, "a later call is among the runs of lib.rs");
+    of_lib.into_iter().chain([later]).collect()
 }
 
-/// The codes of the calls that are answered Done.
-fn done(files: [&File; 2]) -> BTreeSet<u8> {
-    let (mut codes, mut code) = (BTreeSet::new(), 0);
+/// The code of each call, with the number of its answer.
+fn answers<'a>(files: impl IntoIterator<Item = &'a File>) -> Vec<(u8, u8)> {
+    let (mut answers, mut code) = (Vec::new(), 0);
     for (record, line) in files.into_iter().flat_map(|file| &file.traces).flat_map(|trace| &trace.steps) {
         if let [1, next, ..] = *record {
             code = next;
         }
-        if let Line::Answer(Answer(0, _), _) = line {
-            codes.insert(code);
+        if let Line::Answer(Answer(number, _), _) = *line {
+            answers.push((code, number));
         }
     }
-    codes
+    answers
 }
 
 /// A range word, behind these status reads.

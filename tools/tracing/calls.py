@@ -1,5 +1,7 @@
 """The table of all calls of the driver, with the transfers of each."""
 
+import struct
+
 from .answers import INVALID_ADDRESS, INVALID_ARGUMENT, INVALID_DEVICE, OK_FALSE, WOULD_BLOCK
 from .shapes import Maybe, Section, Shape, Step, read, write, writes
 
@@ -118,6 +120,14 @@ def thresholds(value):
     return f"{value >> 16}..{value & 0xFFFF} mm"
 
 
+def rate_limit(bits):
+    """The float with these bits. A word / 128 has at most ten digits."""
+    if bits > 0xFFFF_FFFF:
+        return f"{bits}, which is no float's bits"
+    (limit,) = struct.unpack(">f", struct.pack(">I", bits))
+    return f"{limit:.10g} MCPS"
+
+
 # All calls, in the order of their numbers. One that can go two ways has two rows.
 SHAPES = [
     Shape("with_address", BRING_UP),
@@ -168,6 +178,11 @@ SHAPES = [
         at_once=OK_FALSE,
     ),
     Shape("get_measurement_timing_budget", budget_reads(), value="{} microseconds".format),
+    Shape(
+        "get_signal_rate_limit",
+        [read("FINAL_RANGE_CONFIG_MIN_COUNT_RATE_RTN_LIMIT", 2)],
+        value=rate_limit,
+    ),
 ]
 
 MOST_TRANSFERS = max(sum(spot.step.limit or 1 for spot in shape.spots) for shape in SHAPES)

@@ -1,6 +1,6 @@
 //! Writes vl53l0x.rs for src/lib.rs: oracle/vendor/lib.rs of the repository and, after its last line,
-//! oracle/src/inner.rs. A file that is included cannot have attributes of a crate, so those of lib.rs stand in
-//! src/lib.rs. Their lines stay here as empty ones: a panic is known by its line.
+//! oracle/src/later.rs and oracle/src/inner.rs. A file that is included cannot have attributes of a crate, so those of
+//! lib.rs stand in src/lib.rs. Their lines stay here as empty ones: a panic is known by its line.
 
 use std::path::{Path, PathBuf};
 use std::{env, fs};
@@ -18,6 +18,7 @@ fn main() {
         code += if of_the_crate { "" } else { line };
         code += "\n";
     }
+    code += &text(&oracle.join("src/later.rs"));
     code += &text(&oracle.join("src/inner.rs"));
     let out = PathBuf::from(env::var_os("OUT_DIR").expect("cargo names a folder"));
     fs::write(out.join("vl53l0x.rs"), code).expect("the file is written");

@@ -8,7 +8,7 @@ use core::num::NonZeroU8;
 #[must_use = "a call may have failed"]
 #[derive(Clone, Copy, Debug, PartialEq, Eq)]
 pub enum Answer {
-    /// The call succeeded; the value is the Rust driver's number, or 0.
+    /// The call succeeded; the value is the number that it gives, or 0.
     Done(u32),
     /// The Rust driver's `Ok(false)`: the budget is too short, or the signal rate limit out of range.
     False,
@@ -49,6 +49,31 @@ impl Answer {
             Answer::Done(value) => Ok(value),
             other => Err(other),
         }
+    }
+
+    /// The value of [`Answer::Done`] as the limit that [`Call::GetSignalRateLimit`](crate::Call::GetSignalRateLimit)
+    /// has read, in million counts a second; any other answer is the error.
+    ///
+    /// The limit is the sensor's word / 128, exactly, and setting it writes the same word. Only the greatest word,
+    /// 65535, reads as a limit that is not set again: 511.9921875 is above 511.99, and answered [`Answer::False`].
+    ///
+    /// ```
+    /// use vl53l0x_session::{drive, Answer, Bus, Call, Session};
+    ///
+    /// /// Sets the limit, and gives the one that the sensor holds then.
+    /// fn set(session: &mut Session, bus: &mut impl Bus, limit: f32) -> Result<f32, Answer> {
+    ///     drive(session, bus, Call::SetSignalRateLimit(limit)).0.into_result()?;
+    ///     drive(session, bus, Call::GetSignalRateLimit).0.into_signal_rate_limit()
+    /// }
+    /// # let mut sensor = vl53l0x_simulator::Simulator::new(1);
+    /// # let mut bus = |address: u8, write: &[u8], read: &mut [u8]| sensor.transfer(address, write, read);
+    /// # let mut session = Session::new();
+    /// # assert_eq!(drive(&mut session, &mut bus, Call::NEW).0, Answer::Done(0));
+    /// assert_eq!(set(&mut session, &mut bus, 1.5), Ok(1.5));
+    /// assert_eq!(set(&mut session, &mut bus, 0.3), Ok(0.296875));
+    /// ```
+    pub fn into_signal_rate_limit(self) -> Result<f32, Answer> {
+        self.into_result().map(f32::from_bits)
     }
 
     /// The answer with this number and value; none where the two belong to no answer.

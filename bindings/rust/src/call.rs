@@ -36,6 +36,9 @@ pub enum Call {
     SetSignalRateLimit(f32),
     /// Reads the measurement timing budget in microseconds.
     GetMeasurementTimingBudget,
+    /// Reads the signal rate limit, for which the Rust driver has no function. The value is the bits of a float:
+    /// [`Answer::into_signal_rate_limit`](crate::Answer::into_signal_rate_limit) gives the limit.
+    GetSignalRateLimit,
 }
 
 /// Which event is routed to the interrupt pin.
@@ -82,6 +85,7 @@ impl Call {
             Call::ClearInterruptStatus => (13, 0, 0),
             Call::SetSignalRateLimit(limit) => (14, limit.to_bits(), 0),
             Call::GetMeasurementTimingBudget => (15, 0, 0),
+            Call::GetSignalRateLimit => (16, 0, 0),
         };
         let ([a0, a1, a2, a3], [b0, b1]) = (a.to_be_bytes(), b.to_be_bytes());
         [1, code, a0, a1, a2, a3, b0, b1]

@@ -197,6 +197,7 @@ const CALLS: &[(u8, u32, u16, u8, u32)] = &[
     (13, 0, 0, 2, 2),
     (14, u32::MAX, 0, 1, 1),
     (15, 0, 0, 6, 6),
+    (16, 0, 0, 1, 1),
 ];
 
 /// What is no code of a call.
@@ -323,11 +324,12 @@ fn calls_and_replies_come_in_turn() {
 
 #[test]
 fn a_reply_has_the_bytes_that_were_read() {
-    // Of set_address, who_am_i, get_interrupt_thresholds_mm, and the detector map of a bring-up.
+    // Of set_address, who_am_i, get_interrupt_thresholds_mm, get_signal_rate_limit, the detector map of a bring-up.
     for (reads, session) in [
         (0, waiting_in(3, 0x30, 0, 0, 0, 1)),
         (1, waiting_in(2, 0, 0, 0, 0, 1)),
         (2, waiting_in(11, 0, 0, 0, 0, 1)),
+        (2, waiting_in(16, 0, 0, 0, 0, 1)),
         (6, waiting_in(1, 0x29, 0, 37, 0, 38)),
     ] {
         for index in 0..6 {

@@ -42,6 +42,7 @@ fn calls_have_their_records() {
         (Call::ClearInterruptStatus, [1, 13, 0, 0, 0, 0, 0, 0]),
         (Call::SetSignalRateLimit(0.25), [1, 14, 0x3E, 0x80, 0, 0, 0, 0]),
         (Call::GetMeasurementTimingBudget, [1, 15, 0, 0, 0, 0, 0, 0]),
+        (Call::GetSignalRateLimit, [1, 16, 0, 0, 0, 0, 0, 0]),
     ];
     for (call, record) in records {
         assert_eq!(call.record(), record, "{call:?}");
@@ -138,6 +139,7 @@ fn answers_are_said_in_words() {
         assert_eq!(answer.to_string(), words);
         let expected = if let Answer::Done(value) = answer { Ok(value) } else { Err(answer) };
         assert_eq!(answer.into_result(), expected);
+        assert_eq!(answer.into_signal_rate_limit().map(f32::to_bits), expected);
     }
 }
 
@@ -236,12 +238,42 @@ fn settings_reach_the_sensor() {
     let mut done = |call, value| assert_eq!(on(&mut sensor, &mut session, call).0, Answer::Done(value), "{call:?}");
     done(Call::SetInterruptThresholdsMm(100, 301), 0);
     done(Call::GetInterruptThresholdsMm, 100 << 16 | 300);
-    done(Call::SetSignalRateLimit(0.25), 0);
+    done(Call::GetSignalRateLimit, 0x3E80_0000); // 0.25
+    done(Call::SetSignalRateLimit(1.5), 0);
+    done(Call::GetSignalRateLimit, 0x3FC0_0000);
     done(Call::SetMeasurementTimingBudget(50_000), 0);
     done(Call::SetAddress(0x30), 0);
     done(Call::WhoAmI, 0xEE);
-    assert_eq!((sensor.word(0x0E), sensor.word(0x0C), sensor.word(0x44)), (50, 150, 32));
+    assert_eq!((sensor.word(0x0E), sensor.word(0x0C), sensor.word(0x44)), (50, 150, 192));
     assert_eq!((session.address(), session.budget(), sensor.address()), (0x30, 50_000, 0x30));
+}
+
+/// The sensor holds this word as its signal rate limit.
+fn hold(sensor: &mut Simulator, word: u16) {
+    let [high, low] = word.to_be_bytes();
+    sensor.transfer(0x29, &[0x44, high, low], &mut []).expect("no failure");
+}
+
+/// Every word is read as itself / 128, and written when that is set again, but for the greatest. Before it is set the
+/// sensor is given another one.
+#[test]
+fn a_limit_that_was_read_is_set_again() {
+    let mut sensor = Simulator::new(5);
+    let mut session = brought_up(&mut sensor);
+    for word in 0..=u16::MAX {
+        hold(&mut sensor, word);
+        let (answer, transfers) = on(&mut sensor, &mut session, Call::GetSignalRateLimit);
+        let limit = answer.into_signal_rate_limit().expect("a limit");
+        assert_eq!((limit, transfers), (f32::from(word) / 128.0, 1));
+        hold(&mut sensor, !word);
+        let set = on(&mut sensor, &mut session, Call::SetSignalRateLimit(limit));
+        if word < u16::MAX {
+            assert_eq!((set, sensor.word(0x44)), ((Answer::Done(0), 1), word));
+        } else {
+            // 511.9921875 is above 511.99.
+            assert_eq!((set, sensor.word(0x44), limit.to_bits()), ((Answer::False, 0), 0, 0x43FF_FF00));
+        }
+    }
 }
 
 /// Two sensors on two buses, their calls interleaved step by step, read what each reads alone.

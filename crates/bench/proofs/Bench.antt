@@ -2,6 +2,7 @@
 use mathlib.Core.Path.{refl}
 use Rattle.clock.specs.Clock.{decoded_timeout, halved_in, halved, encoded_timeout, decoded_vcsel_period, microseconds_of, mclks_of}
 use Rattle.spad.specs.Map.{bits_of, byte_of, map_bits, map_bytes, keep, selected}
+use Rattle.rate.proofs.ReadBack.{read_back}
 use Rattle.timing.specs.Timeouts.{timeout_clocks, period_clocks, pre_share, final_clocks, msrc_clocks, msrc_time, pre_time, final_time}
 use Rattle.timing.specs.Places.{timeout_place, period_place, less_place, entries_of, first_match, first_place}
 use Rattle.budget.specs.Sums.{dss_or_msrc, step_sum, budget_sum, used_sum}
@@ -30,6 +31,7 @@ bench = record {
   call_15 = refl;
   call_9 = refl;
   call_9_now = refl;
+  limits = read_back.values;
   session = session_values;
   by_first = first_values;
   by_current = current_values;

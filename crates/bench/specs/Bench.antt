@@ -4,6 +4,7 @@ use Rattle.clock.specs.declared.Place.{Place}
 use Rattle.clock.specs.Places.{place_number}
 use Rattle.clock.specs.Clock.{decoded_timeout, encoded_timeout, decoded_vcsel_period, macro_period}
 use Rattle.spad.specs.Map.{selected}
+use Rattle.rate.specs.ReadBack.{LimitValues}
 use Rattle.timing.specs.declared.TimingRegisters.{TimingRegisters}
 use Rattle.timing.specs.Registers.{registers_of}
 use Rattle.budget.specs.Budget.{measurement_timing_budget, final_range_word}
@@ -39,6 +40,7 @@ pub record BenchValues : Type 0 where
   -- SCOPE 2.6: by the first rules, for ever, and by the current ones
   pub call_9 : final_range_word reads (record { 0 = 33000 }) (dss_term_of Rules.First) ≡ Ok 0x0292
   pub call_9_now : final_range_word reads (record { 0 = 33000 }) (dss_term_of Rules.Current) ≡ Ok 0x0292
+  pub limits : LimitValues
   -- the numbers and values of the answers, a fresh session's zeros, and the run of SCOPE 10.1
   pub session : (rules : Rules) → SessionValues rules
   pub by_first : FirstValues

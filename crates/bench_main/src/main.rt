@@ -1,4 +1,4 @@
-// The bench values that are run (SCOPE 11.2): the numbers of calls 14, 10 and 11. `stdout` has what that section says.
+// The bench values that are run (SCOPE 11.2): the numbers of calls 14, 16, 10 and 11. `stdout` has what that section says.
 #![tactic(auto)]
 
 use std::io;
@@ -8,6 +8,14 @@ fn rate_line(rt: &impl Print, name: &str, bits: u32) -> io::Result<()> {
     match rate::signal_rate_limit_word(bits) {
         Some(word) => println!(rt; "{name} writes {word}"),
         None => println!(rt; "{name} refused"),
+    }
+}
+
+fn limit_line(rt: &impl Print, word: u16) -> io::Result<()> {
+    let bits = rate::signal_rate_limit_bits(word);
+    match rate::signal_rate_limit_word(bits) {
+        Some(same) => println!(rt; "{word} reads {bits:08X}, which writes {same}"),
+        None => println!(rt; "{word} reads {bits:08X}, which is refused"),
     }
 }
 
@@ -28,6 +36,9 @@ fn main(rt: HostRuntime) -> io::Result<()> {
     rate_line(&rt, "0.25", 0x3E80_0000)?;
     rate_line(&rt, "43FFFEB8", 0x43FF_FEB8)?;
     rate_line(&rt, "43FFFEB9", 0x43FF_FEB9)?;
+    limit_line(&rt, 32)?;
+    limit_line(&rt, 65534)?;
+    limit_line(&rt, 65535)?;
     threshold_line(&rt, 8190)?;
     threshold_line(&rt, 8191)?;
     read_back_line(&rt, 301)

@@ -26,7 +26,7 @@ pub struct Facts {
 }
 
 // These by code, in this order. 0 is no call's.
-const FACTS: [(u8, u32, u16, u32); 16] = [
+const FACTS: [(u8, u32, u16, u32); 17] = [
     (0, 0, 0, 0),
     (156, 255, 0, 85688),
     (1, 0, 0, 1),
@@ -43,6 +43,7 @@ const FACTS: [(u8, u32, u16, u32); 16] = [
     (2, 0, 0, 2),
     (1, 4294967295, 0, 1),
     (6, 0, 0, 6),
+    (1, 0, 0, 1),
 ];
 
 // A code that is no call's has no instructions, and takes nothing.
@@ -96,6 +97,7 @@ pub fn instruction_at(rules: Rules, code: u8, step: u8) -> Instruction
         13 => tables::clear_interrupt_status(step),
         14 => tables::set_signal_rate_limit(step),
         15 => tables::get_budget(step),
+        16 => tables::get_signal_rate_limit(step),
         _ => Instruction::Nowhere,
     }
 }

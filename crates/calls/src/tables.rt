@@ -1,6 +1,6 @@
 // The instructions of the calls after the bring-up.
 ghost use Rattle.std.specs.Prelude.{◌≡◌};
-ghost use Rattle.session.specs.Calls.{who_am_i_call, set_address_call, start_continuous_call, stop_continuous_call, read_range_mm_call, read_range_continuous_call, read_range_single_call, set_budget_call, set_thresholds_call, get_thresholds_call, set_gpio_config_call, clear_interrupt_status_call, set_signal_rate_limit_call, get_budget_call};
+ghost use Rattle.session.specs.Calls.{who_am_i_call, set_address_call, start_continuous_call, stop_continuous_call, read_range_mm_call, read_range_continuous_call, read_range_single_call, set_budget_call, set_thresholds_call, get_thresholds_call, set_gpio_config_call, clear_interrupt_status_call, set_signal_rate_limit_call, get_budget_call, get_signal_rate_limit_call};
 ghost use Rattle.calls.specs.Calls.{step_of};
 
 use crate::sections::{
@@ -138,4 +138,10 @@ pub(crate) fn get_budget(step: u8) -> Instruction
         &[&timing_reads(TIMING_SLOT), &[Instruction::FindBudget]],
         step,
     )
+}
+
+pub(crate) fn get_signal_rate_limit(step: u8) -> Instruction
+    ensures { result ≡ step_of get_signal_rate_limit_call.steps step }
+{
+    row(&[Instruction::ReadWord(0x44, TIMING_SLOT)], step)
 }

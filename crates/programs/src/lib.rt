@@ -165,6 +165,14 @@ fn thresholds_result(s: Session) -> Finished
     )
 }
 
+#[tactic(auto, unfolding(crate::specs::Programs::final_of, session::specs::Calls::program_of, session::specs::Calls::programs))]
+fn limit_result(s: Session) -> Finished
+    ensures { Ok result ≡ end_of (final_of 16 (context_of s)) }
+{
+    let limit = rate::signal_rate_limit_bits(word(s.carried[8], s.carried[9]));
+    finishes(limit, s)
+}
+
 // How a call ends after its last instruction. One arm for each call: the proof of each goes by its code.
 #[tactic(auto, unfolding(crate::specs::Programs::final_of, session::specs::Calls::program_of, session::specs::Calls::programs))]
 pub fn final_of(code: u8, s: Session) -> Result<Finished, RangeFailure>
@@ -186,6 +194,7 @@ pub fn final_of(code: u8, s: Session) -> Result<Finished, RangeFailure>
         13 => Ok(finishes(0, s)),
         14 => Ok(finishes(0, s)),
         15 => Ok(finishes(s.found_budget, s)),
+        16 => Ok(limit_result(s)),
         // No call has another code.
         _ => Err(RangeFailure(0)),
     }

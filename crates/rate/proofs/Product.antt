@@ -108,7 +108,7 @@ units_number : (s : Bool) (q k : ℕ) → T (not (is_nan (units binary32 s q k))
 unfolding units
 units_number s q k = either_number (ltb (q * 2 ^ k) (2 ^ 277)) (odd 25 s q k 149) s (odd_number 25 s q k 149)
 
-round_number : (s : Bool) (n d : ℕ) → T (not (is_nan (round binary32 s n d)))
+pub round_number : (s : Bool) (n d : ℕ) → T (not (is_nan (round binary32 s n d)))
 unfolding round
 round_number s n d =
     let w = n * 2 ^ 149 in

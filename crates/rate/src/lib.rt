@@ -1,10 +1,10 @@
-// The number of call 14: the signal rate limit, an `f32` in MCPS given by its bits, as the register's Q9.7 word.
+// The signal rate limit, an `f32` in MCPS given by its bits, as the register's Q9.7 word (call 14), and back (call 16).
 #![tactic(auto)]
 
 ghost use Rattle.std.specs.Prelude.{◌≡◌};
 ghost use Rattle.std.specs.Float.{binary32};
 ghost use Rattle.std.specs.Float.Ieee.{of_bits, to_unsigned};
-ghost use Rattle.rate.specs.Rate.{signal_rate_limit_word};
+ghost use Rattle.rate.specs.Rate.{signal_rate_limit_word, signal_rate_limit_bits};
 
 // `f32::from_bits(bits) as u16` of Rust, worked out from the bits: the fraction is dropped, and what a `u16` does not hold becomes its nearest end.
 fn whole_part(bits: u32) -> u16
@@ -41,4 +41,11 @@ pub fn signal_rate_limit_word(bits: u32) -> Option<u16>
     } else {
         None
     }
+}
+
+// The limit that a word stands for, as the bits of its float: the division is exact.
+pub fn signal_rate_limit_bits(word: u16) -> u32
+    ensures { result ≡ signal_rate_limit_bits word }
+{
+    f32::to_bits(word as f32 / 128.0)
 }

@@ -102,6 +102,12 @@ fn main(rt: HostRuntime) -> io::Result<()> {
     )?;
     rows(
         &mut out,
+        "get_signal_rate_limit",
+        0..=u16::MAX,
+        rates::signal_rate_limit_bits,
+    )?;
+    rows(
+        &mut out,
         "set_interrupt_thresholds_mm",
         0..=u16::MAX,
         thresholds::encode_threshold,

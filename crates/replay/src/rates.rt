@@ -9,3 +9,7 @@ pub fn signal_rate_limit_word(out: &mut impl Write, bits: u32) -> io::Result<()>
         None => write!(out, "refused"),
     }
 }
+
+pub fn signal_rate_limit_bits(out: &mut impl Write, word: u16) -> io::Result<()> {
+    write!(out, "{:08X}", rate::signal_rate_limit_bits(word))
+}

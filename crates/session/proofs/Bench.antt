@@ -5,8 +5,8 @@ use Prim.Native.Nat.{ℕ, ◌+◌, ◌*◌, ◌/◌, ◌%◌, ◌<◌}
 use native.Mathlib.Omega.{arith}
 use borrow.Author.Tests.{ne_eqb}
 use mathlib.Core.List.{List, [], ◌∷◌, ◌++◌}
-use lib.Ieee.{span, climb, size, odd, units, round, lt, eq, le, of_fields, of_bits}
-use Rattle.rate.specs.Rate.{literal, in_range, rate_of, signal_rate_limit_word}
+use lib.Ieee.{span, climb, size, odd, units, round, lt, eq, le, of_fields, of_bits, to_bits}
+use Rattle.rate.specs.Rate.{literal, in_range, rate_of, signal_rate_limit_word, signal_rate_limit_bits}
 use Rattle.budget.specs.Budget.{measurement_timing_budget}
 use Rattle.budget.specs.Sums.{dss_or_msrc, step_sum, budget_sum}
 use Rattle.timing.specs.Places.{timeout_place, period_place, less_place, entries_of, first_match, first_place}
@@ -17,7 +17,8 @@ use Rattle.session.specs.Bus.{Driver}
 use Rattle.session.specs.Calls.{tuning, programs, program_of, default_address, top_code, ceiling_of, arguments_ok}
 use Rattle.session.specs.Machine.{arrive, stray, malformed, reply_def, begin_def, other_def}
 use Rattle.session.specs.Records.{call, reply, other, call_bytes, reply_bytes, records_of}
-use Rattle.session.specs.RustBringUp.{new, calls, rust}
+use Rattle.session.specs.RustBringUp.{new, calls}
+use Rattle.session.specs.LaterCalls.{rust}
 use Rattle.session.specs.History.{step_def, run_from, run_records, run_def}
 use Rattle.session.specs.Bench.{AnswerValues, CarriedPlaces, HeldValues, FirstValues, CurrentValues, EdgeValues, SessionValues}
 
@@ -57,8 +58,18 @@ unfolding step_def begin_def reply_def malformed stray arrive program_of program
 first_values = record { codes = refl; ceilings = refl; at_ceiling = refl; over_ceiling = refl; past_the_last = refl }
 
 pub current_values : CurrentValues
-unfolding step_def begin_def reply_def malformed stray arrive program_of programs top_code tuning arguments_ok ceiling_of
-current_values = record { codes = refl; ceilings = refl; at_ceiling = refl; over_ceiling = refl; past_the_last = refl }
+unfolding step_def begin_def reply_def malformed stray arrive program_of programs top_code tuning arguments_ok ceiling_of signal_rate_limit_bits literal round units odd size climb span to_bits
+current_values = record {
+  codes = refl;
+  ceilings = refl;
+  unused = refl;
+  at_ceiling = refl;
+  over_ceiling = refl;
+  past_the_last = refl;
+  limit = refl;
+  third_byte = refl;
+  over_its_ceiling = refl;
+}
 
 edge_values : (rules : Rules) → EdgeValues rules
 unfolding step_def begin_def malformed arrive program_of programs top_code tuning arguments_ok ceiling_of signal_rate_limit_word rate_of in_range literal round units odd size climb span of_bits of_fields le lt eq

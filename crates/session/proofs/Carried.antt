@@ -27,7 +27,7 @@ use Rattle.session.proofs.Shape.{and_false}
 use Rattle.session.proofs.Slots.{under, within}
 use Rattle.session.proofs.Pairs.{met_at, out_at}
 use Rattle.session.proofs.Bits.{or_is, and_is, spad_count_is, aperture_is, raw_is, mm_is}
-use Rattle.session.proofs.RateLimit.{accepted_is, refused_is}
+use Rattle.session.proofs.RateLimit.{accepted_is, refused_is, read_is}
 use Rattle.session.proofs.Same.{spads_are}
 
 limit_is : (bits : ℕ) → limit_sent bits ≡ rate_in (signal_rate_limit_word bits)
@@ -137,7 +137,10 @@ carried_answers rules s bs u long clean = (
                           at_last rules s bs u clean 13 1 (Instruction.Write 0x0B 0x00) _ _ refl (λ e e'. rw (e, e') refl),
                           (
                             at_last rules s bs u clean 14 0 Instruction.WriteRate _ _ refl (λ e e'. rw (e, e') refl),
-                            tt,
+                            (
+                              at_last rules s bs u clean 16 0 (Instruction.ReadWord 0x44 8) _ _ refl (λ e e'. rw (e, e', read_is, within (bytes_from 0 2 bs) s.carried 8 0 (omega arith) (omega (arith, long)), within (bytes_from 0 2 bs) s.carried 8 1 (omega arith) (omega (arith, long))) refl),
+                              tt,
+                            ),
                           ),
                         ),
                       ),

@@ -13,7 +13,7 @@ use Rattle.session.specs.Calls.{ops_of, programs, program_of, arguments_ok}
 use Rattle.session.specs.Machine.{Session, context_of, decide, begun, not_up, begin_def}
 use Rattle.session.specs.History.{step_def}
 use Rattle.session.specs.Script.{Raw, play}
-use Rattle.session.specs.RustBringUp.{rust}
+use Rattle.session.specs.LaterCalls.{rust}
 use Rattle.session.specs.AnySession.{concluded, decided, resume}
 use Rattle.session.specs.Claim2.{Accepted, drive, Demand2}
 use Rattle.session.proofs.Table.{AllBelow, last_program, by_code_lem}

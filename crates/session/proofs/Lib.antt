@@ -68,6 +68,7 @@ pub mod Failed
 pub mod Carried
 -- call 9 whole
 pub mod SetBudget
+pub mod ReadLimit
 -- waits over any limit, and values
 pub mod Waits
 pub mod Bench

@@ -17,12 +17,13 @@ use Rattle.session.specs.Machine.{zeros}
 use Rattle.session.specs.Script.{Script}
 use Rattle.session.specs.RustFn.{Fn, ◌>>◌, Ok, write_byte}
 use Rattle.session.specs.RustClocks.{limit_contained}
-use Rattle.session.specs.RustBringUp.{as_u8, as_u16, enable_ref_spads, load_tuning_settings, calls, rust}
+use Rattle.session.specs.RustBringUp.{as_u8, as_u16, enable_ref_spads, load_tuning_settings, calls}
+use Rattle.session.specs.LaterCalls.{later_calls, rust}
 use Rattle.session.specs.AnySession.{decided, resume}
 use Rattle.session.proofs.Once.{once_of}
 use Rattle.session.proofs.Formulas.{period_is}
 use Rattle.session.proofs.Bits.{or_is, and_is, no_interrupt_is, start_bit_is, spad_count_is, aperture_is, raw_is, mm_is}
-use Rattle.session.proofs.RateLimit.{accepted_is, refused_is, quarter_in, quarter_word}
+use Rattle.session.proofs.RateLimit.{accepted_is, refused_is, quarter_in, quarter_word, read_is}
 use Rattle.session.proofs.BudgetCalls.{get_is, set_is}
 
 abbrev pub fresh : ℕ → Driver → ℕ → ℕ → ℕ → Context
@@ -127,4 +128,8 @@ pub same_15 : (rules : Rules) (d : Driver) (a b : ℕ) → script rules 15 (fres
 unfolding program_of programs rust calls entries_of less_place
 same_15 rules d a b = rw get_is
 
-pub ruleset each_call = (same_1, same_2, same_3, same_4, same_5, same_6, same_7, same_8, same_9, same_10, same_11, same_12, same_13, same_14, same_15)
+pub same_16 : (rules : Rules) (d : Driver) (a b : ℕ) → script rules 16 (fresh 16 d d.address a b) ≡ rust rules d 16 a b
+unfolding program_of programs rust calls later_calls
+same_16 rules d a b = rw read_is
+
+pub ruleset each_call = (same_1, same_2, same_3, same_4, same_5, same_6, same_7, same_8, same_9, same_10, same_11, same_12, same_13, same_14, same_15, same_16)

@@ -24,7 +24,8 @@ use Rattle.session.specs.Machine.{Session}
 use Rattle.session.specs.Rules.{dss_term_of}
 use Rattle.session.specs.Script.{Script, done, send, Raw, data_of, is_clean, cut, Trace, sends, ends, heard, play}
 use Rattle.session.specs.RustFn.{Fn, ◌>>◌, Ok, panic, if, set_self_budget, write_16bit}
-use Rattle.session.specs.RustBringUp.{method, flag, calls, rust}
+use Rattle.session.specs.RustBringUp.{method, flag, calls}
+use Rattle.session.specs.LaterCalls.{rust}
 use Rattle.session.specs.Claim3.{good1}
 use Rattle.session.specs.SetBudget.{good_replies, read_transfers, made_of, sends_all, by_result, trace_of_call9, RustSetsBudget, SessionSetsBudget}
 use Rattle.session.proofs.Once.{number as place_no, final_macro, spare_sum, total_clocks}

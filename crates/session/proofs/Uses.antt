@@ -150,6 +150,7 @@ ends_of =
     ∷ []
     ∷ []
     ∷ (budget_found ∷ [])
+    ∷ bytes_in 8 2
     ∷ []
 
 abbrev pub end_of : ℕ → List Part

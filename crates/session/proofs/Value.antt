@@ -14,7 +14,8 @@ use Rattle.budget.specs.Budget.{budget_after, measurement_timing_budget}
 use Rattle.session.specs.Bus.{Driver, Transfer, Answer, Reply, absent}
 use Rattle.session.specs.Script.{Script, done, send, Raw, data_of, is_clean, cut, heard, play}
 use Rattle.session.specs.RustFn.{Ok}
-use Rattle.session.specs.RustBringUp.{method, number, calls, rust}
+use Rattle.session.specs.RustBringUp.{method, number, calls}
+use Rattle.session.specs.LaterCalls.{rust}
 use Rattle.session.specs.Claim3.{good1, good2, done_value, value_of_call15}
 use Rattle.session.proofs.Once.{number as place_no}
 use Rattle.session.proofs.SixReads.{six}

@@ -15,6 +15,7 @@ use Rattle.session.specs.RustFn.{Chip, ◌>>◌, Ok}
 use Rattle.session.specs.RustClocks.{or_u8, and_u8, spad_count, type_is_aperture, threshold_raw, threshold_mm, limit_contained, limit_word}
 use Rattle.session.specs.RustCalls.{start_timed, get_measurement_timing_budget, set_budget_from_reads, set_measurement_timing_budget}
 use Rattle.session.specs.RustBringUp.{enable_ref_spads, method, constructed, number, flag, unit, calibration, budget_and_calibration}
+use Rattle.session.specs.LaterCalls.{limit_read}
 use Rattle.session.specs.Claim1.{chip_address}
 use Rattle.session.specs.Claim2.{Accepted}
 use Rattle.session.specs.Claim3.{reported}
@@ -207,7 +208,7 @@ IgnoresReadBack rules s bs bs' =
     → zero_from (outstanding rules s).reads bs' ≡ true
     → step_def rules s (reply 0 bs) ≡ step_def rules s (reply 0 bs')
 
--- WRITES AND ANSWERS of carried bytes, in the formulas of lib.rs (RustClocks, RustBringUp), for all bytes. Words are sent high byte first
+-- WRITES AND ANSWERS of carried bytes, in the formulas of lib.rs (RustClocks, RustBringUp, and LaterCalls in its manner), for all bytes. Words are sent high byte first
 abbrev pub word_sent : ℕ → List ℕ
 word_sent w = w / 256 % 256 ∷ w % 256 ∷ []
 
@@ -271,6 +272,7 @@ answers_of s bs =
     ∷ (12, 4, Answer.Done 0, s.driver)
     ∷ (13, 1, Answer.Done 0, s.driver)
     ∷ (14, 0, Answer.Done 0, s.driver)
+    ∷ (16, 0, Answer.Done (limit_read (word_at 0 bs)), s.driver)
     ∷ []
 
 abbrev pub EachAnswer : Rules → Session → List ℕ → List (ℕ × ℕ × Answer × Driver) → Type 0

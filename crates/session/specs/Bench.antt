@@ -6,7 +6,7 @@ use Rattle.session.specs.declared.Rules.{Rules}
 use Rattle.session.specs.Bus.{Driver, Answer, transfer_of, number_of, values_of}
 use Rattle.session.specs.Instructions.{timing_slot}
 use Rattle.session.specs.Calls.{ceiling_of}
-use Rattle.session.specs.Machine.{Session, Outcome, sent, answered, broken, zeros, calling, with_place, with_kept, resting, fresh_session, reply_def}
+use Rattle.session.specs.Machine.{Session, Outcome, sent, answered, refused, broken, zeros, calling, with_place, with_kept, resting, fresh_session, reply_def}
 use Rattle.session.specs.Records.{call, reply, other, call_bytes, reply_bytes, records_of}
 use Rattle.session.specs.History.{step_def, transfer, answer, refusal, Entry, run_def}
 use Rattle.session.specs.Claim1.{refusal_number}
@@ -106,11 +106,16 @@ pub record FirstValues : Type 0 where
   pub past_the_last : replied1 Rules.First (held 16 0 0 0 1 []) 0 ≡ broken (held 16 0 0 0 1 [])
 
 pub record CurrentValues : Type 0 where
-  pub codes : map (refusal_of Rules.Current) edge_codes ≡ 13 ∷ 0 ∷ 0 ∷ 13 ∷ []
-  pub ceilings : map (ceiling_of Rules.Current) codes_1_to_15 ≡ 85688 ∷ 1 ∷ 1 ∷ 10 ∷ 6 ∷ 4 ∷ 10003 ∷ 20011 ∷ 7 ∷ 2 ∷ 2 ∷ 5 ∷ 2 ∷ 1 ∷ 6 ∷ []
+  pub codes : map (refusal_of Rules.Current) (edge_codes ++ (17, 0, 0) ∷ []) ≡ 13 ∷ 0 ∷ 0 ∷ 0 ∷ 13 ∷ []
+  pub ceilings : map (ceiling_of Rules.Current) (codes_1_to_15 ++ 16 ∷ []) ≡ 85688 ∷ 1 ∷ 1 ∷ 10 ∷ 6 ∷ 4 ∷ 10003 ∷ 20011 ∷ 7 ∷ 2 ∷ 2 ∷ 5 ∷ 2 ∷ 1 ∷ 6 ∷ 1 ∷ []
+  pub unused : map (refusal_of Rules.Current) ((16, 1, 0) ∷ (16, 0, 1) ∷ []) ≡ 13 ∷ 13 ∷ []
   pub at_ceiling : replied1 Rules.Current (held 4 0 0 0 10 []) 0 ≡ sent (transfer_of 0x29 (0xFF ∷ 0x01 ∷ []) 1) (held 4 0 0 1 11 [])
   pub over_ceiling : replied1 Rules.Current (held 4 0 0 1 11 []) 0 ≡ broken (held 4 0 0 1 11 [])
-  pub past_the_last : replied1 Rules.Current (held 16 0 0 0 1 []) 0 ≡ broken (held 16 0 0 0 1 [])
+  pub past_the_last : replied1 Rules.Current (held 17 0 0 0 1 []) 0 ≡ broken (held 17 0 0 0 1 [])
+  -- a call 16 that waits: its word, high byte first, and a count over its ceiling
+  pub limit : reply_def Rules.Current (held 16 0 0 0 1 []) 0 (0x00 ∷ 0x20 ∷ 0 ∷ 0 ∷ 0 ∷ 0 ∷ []) ≡ answered (Answer.Done 0x3E80_0000) 1 standing
+  pub third_byte : reply_def Rules.Current (held 16 0 0 0 1 []) 0 (0x00 ∷ 0x20 ∷ 1 ∷ 0 ∷ 0 ∷ 0 ∷ []) ≡ refused Answer.StrayByte (held 16 0 0 0 1 [])
+  pub over_its_ceiling : reply_def Rules.Current (held 16 0 0 0 2 []) 0 (0x00 ∷ 0x20 ∷ 0 ∷ 0 ∷ 0 ∷ 0 ∷ []) ≡ broken (held 16 0 0 0 2 [])
 
 -- SCOPE 7.2: the edges of the argument ranges, and arguments that are not used
 pub record EdgeValues (rules : Rules) : Type 0 where

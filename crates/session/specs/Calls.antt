@@ -1,6 +1,6 @@
 -- The calls: what their arguments decide, their instructions, and how they end. SCOPE 5; the transfers are those of lib.rs, in its order.
-use Rattle.std.specs.Prelude.{Bool, true, ◌||◌, ◌&&◌, List, [], ◌∷◌, ◌++◌, map, ℕ, zero, suc, ◌+◌, ◌-◌, ◌*◌, ltb, leb, length, get_or, is_none, is_err}
-use Rattle.rate.specs.Rate.{signal_rate_limit_word}
+use Rattle.std.specs.Prelude.{Bool, true, ◌||◌, ◌&&◌, List, [], ◌∷◌, ◌++◌, map, ℕ, zero, suc, ◌+◌, ◌-◌, ◌*◌, ◌%◌, ltb, leb, length, get_or, is_none, is_err}
+use Rattle.rate.specs.Rate.{signal_rate_limit_word, signal_rate_limit_bits}
 use Rattle.threshold.specs.Threshold.{check_thresholds, decode_threshold}
 use Rattle.budget.specs.declared.DssTerm.{DssTerm}
 use Rattle.session.specs.declared.Setting.{Setting}
@@ -278,6 +278,11 @@ set_signal_rate_limit_call =
 abbrev pub get_budget_call : Program
 get_budget_call = valued 6 budget_reads (λ c. c.found_budget)
 
+-- call 16. SCOPE 5.12: the limit that the word of two bytes at 0x44 stands for
+abbrev pub get_signal_rate_limit_call : Program
+get_signal_rate_limit_call =
+    valued 1 (Instruction.ReadWord 0x44 timing_slot ∷ []) (λ c. signal_rate_limit_bits (slot_word timing_slot c % 65536))
+
 -- for codes that are no call
 abbrev pub nothing : Program
 nothing = record { greatest_a = 0; greatest_b = 0; ceiling = 0; entry = pass; steps = []; final = λ c. failure 0 }
@@ -287,7 +292,8 @@ nothing = record { greatest_a = 0; greatest_b = 0; ceiling = 0; entry = pass; st
 unfoldable pub programs : Rules → List Program
 programs rules =
     nothing ∷ with_address_call (dss_term_of rules) ∷ who_am_i_call ∷ set_address_call ∷ start_continuous_call ∷ stop_continuous_call ∷ read_range_mm_call ∷ read_range_continuous_call
-    ∷ read_range_single_call ∷ set_budget_call (dss_term_of rules) ∷ set_thresholds_call ∷ get_thresholds_call ∷ set_gpio_config_call ∷ clear_interrupt_status_call ∷ set_signal_rate_limit_call ∷ get_budget_call ∷ []
+    ∷ read_range_single_call ∷ set_budget_call (dss_term_of rules) ∷ set_thresholds_call ∷ get_thresholds_call ∷ set_gpio_config_call ∷ clear_interrupt_status_call ∷ set_signal_rate_limit_call ∷ get_budget_call
+    ∷ get_signal_rate_limit_call ∷ []
 
 unfoldable pub program_of : Rules → ℕ → Program
 program_of rules code = get_or (programs rules) code nothing

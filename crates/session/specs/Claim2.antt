@@ -7,7 +7,7 @@ use Rattle.session.specs.Machine.{Session, Outcome, sent, answered, refused, bro
 use Rattle.session.specs.Records.{call, reply}
 use Rattle.session.specs.Refusals.{rows_under, in_range}
 use Rattle.session.specs.Script.{Raw, data_of, Trace, sends, refuses, waits, ends, play}
-use Rattle.session.specs.RustBringUp.{rust}
+use Rattle.session.specs.LaterCalls.{rust}
 use Rattle.session.specs.History.{step_def, session_of}
 
 -- the session is up, or the call is a bring-up

@@ -31,7 +31,7 @@ asks reg t = wrote (reg ∷ []) t && eqb t.reads 1
 -- CEILING. No call has made more transfers than its ceiling (SCOPE 5.1). The claim's numbers and tests are its own: written down again, not the
 -- machine's.
 unfoldable pub most_in : ℕ → ℕ
-most_in code = get_or (0 ∷ 85688 ∷ 1 ∷ 1 ∷ 10 ∷ 6 ∷ 4 ∷ 10003 ∷ 20011 ∷ 7 ∷ 2 ∷ 2 ∷ 5 ∷ 2 ∷ 1 ∷ 6 ∷ []) code 0
+most_in code = get_or (0 ∷ 85688 ∷ 1 ∷ 1 ∷ 10 ∷ 6 ∷ 4 ∷ 10003 ∷ 20011 ∷ 7 ∷ 2 ∷ 2 ∷ 5 ∷ 2 ∷ 1 ∷ 6 ∷ 1 ∷ []) code 0
 
 -- SCOPE 2.6: how often a transfer is made at most, by the rules
 abbrev pub times_in : Rules → ℕ
@@ -43,7 +43,7 @@ ceiling_in rules code = times_in rules * most_in code
 
 -- beyond the demand: the least transfers of a call answered Done
 unfoldable pub floor_in : ℕ → ℕ
-floor_in code = get_or (0 ∷ 149 ∷ 1 ∷ 1 ∷ 8 ∷ 6 ∷ 4 ∷ 4 ∷ 13 ∷ 7 ∷ 2 ∷ 2 ∷ 5 ∷ 2 ∷ 1 ∷ 6 ∷ []) code 0
+floor_in code = get_or (0 ∷ 149 ∷ 1 ∷ 1 ∷ 8 ∷ 6 ∷ 4 ∷ 4 ∷ 13 ∷ 7 ∷ 2 ∷ 2 ∷ 5 ∷ 2 ∷ 1 ∷ 6 ∷ 1 ∷ []) code 0
 
 -- TIMEOUT. A call was answered Timeout exactly if its last accepted replies, 65,535 for the detector wait and 10,000 for the others, were all idle
 -- reads of that wait (SCOPE 4.2).

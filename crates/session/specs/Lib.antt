@@ -10,6 +10,8 @@ pub mod RustFn
 pub mod RustClocks
 pub mod RustCalls
 pub mod RustBringUp
+-- and the calls that it does not have, in its manner
+pub mod LaterCalls
 -- runs and their history. What a record gives a session is the machine's, below; so are the names for a fresh session, one at rest, an ill-formed
 -- one and the transfer that is out
 pub mod History
@@ -30,6 +32,8 @@ pub mod Parts
 pub mod AnySession
 -- call 9 whole, from its budget and its replies
 pub mod SetBudget
+-- call 16 whole, and call 14 with what it read
+pub mod ReadLimit
 -- waits over any limit, and values
 pub mod AnyLimit
 pub mod Bench

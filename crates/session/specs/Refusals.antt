@@ -43,10 +43,14 @@ call_rows =
     ∷ row 15 0 0 6 6 [] ((1, 2) ∷ (2, 2) ∷ [])
     ∷ []
 
+-- the calls that came later
+abbrev pub later_rows : List Row
+later_rows = row 16 0 0 1 1 [] ((0, 2) ∷ []) ∷ []
+
 -- SCOPE 2.6: the calls that the rules have, and how often each of their transfers is made at most
 abbrev pub rows_under : Rules → List Row
 rows_under Rules.First = call_rows
-rows_under Rules.Current = call_rows
+rows_under Rules.Current = call_rows ++ later_rows
 
 abbrev pub times_under : Rules → ℕ
 times_under Rules.First = 1

@@ -1,5 +1,5 @@
--- The bring-up of lib.rs, and what a call of each code is in it.
-use Rattle.std.specs.Prelude.{Bool, true, false, List, [], ◌∷◌, ℕ, ◌+◌, ◌*◌, ◌%◌, eqb, get_or}
+-- The bring-up of lib.rs, and the function of each of its calls.
+use Rattle.std.specs.Prelude.{Bool, true, false, List, [], ◌∷◌, ℕ, ◌+◌, ◌*◌, ◌%◌, eqb}
 use Rattle.spad.specs.Loop.{enable_spads}
 use Rattle.session.specs.declared.Rules.{Rules}
 use Rattle.session.specs.Bus.{Driver, Answer, byte, absent}
@@ -257,6 +257,3 @@ calls rules =
     ∷ (λ d a b. method flag d (set_signal_rate_limit a))
     ∷ (λ d a b. method number d get_measurement_timing_budget)
     ∷ []
-
-unfoldable pub rust : Rules → Driver → ℕ → ℕ → ℕ → Script
-rust rules d code a b = get_or (calls rules) code (λ d' a' b'. done Answer.False d') d a b

@@ -14,7 +14,7 @@ use Rattle.session.specs.Records.{call}
 use Rattle.session.specs.Machine.{Session}
 use Rattle.session.specs.History.{step_def}
 use Rattle.session.specs.Script.{Raw, Trace, sends, ends, play}
-use Rattle.session.specs.RustBringUp.{rust}
+use Rattle.session.specs.LaterCalls.{rust}
 use Rattle.session.specs.Claim2.{Accepted, drive}
 use Rattle.session.specs.Claim3.{good1, good2}
 

@@ -1,10 +1,10 @@
 -- The definitions do what the Rust did: every run is computed.
 use mathlib.Core.Path.{refl}
-use lib.Ieee.{span, climb, size, odd, units, round, lt, eq, le, of_fields, of_bits}
+use lib.Ieee.{span, climb, size, odd, units, round, lt, eq, le, of_fields, of_bits, to_bits}
 use Rattle.clock.specs.Clock.{decoded_timeout, doubled_in, halved_in, halved, encoded_timeout, decoded_vcsel_period, microseconds_of, mclks_of}
 use Rattle.spad.specs.Map.{bits_of, byte_of, map_bits, map_bytes, keep, selected}
 use Rattle.spad.specs.Masks.{each_bit, or_byte, and_byte}
-use Rattle.rate.specs.Rate.{literal, in_range, rate_of, signal_rate_limit_word}
+use Rattle.rate.specs.Rate.{literal, in_range, rate_of, signal_rate_limit_word, signal_rate_limit_bits}
 use Rattle.timing.specs.Timeouts.{timeout_clocks, period_clocks, pre_share, final_clocks, msrc_clocks, msrc_time, pre_time, final_time}
 use Rattle.timing.specs.Places.{timeout_place, period_place, less_place, entries_of, first_match, first_place}
 use Rattle.budget.specs.Sums.{dss_or_msrc, step_sum, budget_sum, used_sum}
@@ -17,7 +17,7 @@ use Rattle.session.specs.History.{step_def, run_from, run_records, run_def}
 use Rattle.traces.specs.Agreement.{RustAgrees}
 
 pub rust_agrees : RustAgrees
-unfolding run_def run_records records_of run_from step_def begin_def reply_def malformed stray arrive program_of programs top_code tuning arguments_ok ceiling_of idle_on bits_of byte_of map_bits map_bytes keep selected each_bit or_byte and_byte decoded_timeout doubled_in halved_in halved encoded_timeout decoded_vcsel_period microseconds_of mclks_of timeout_clocks period_clocks pre_share final_clocks msrc_clocks msrc_time pre_time final_time timeout_place period_place less_place entries_of first_match first_place dss_or_msrc step_sum budget_sum used_sum measurement_timing_budget word_of_sum word_within final_range_word signal_rate_limit_word rate_of in_range literal round units odd size climb span of_bits of_fields le lt eq
+unfolding run_def run_records records_of run_from step_def begin_def reply_def malformed stray arrive program_of programs top_code tuning arguments_ok ceiling_of idle_on bits_of byte_of map_bits map_bytes keep selected each_bit or_byte and_byte decoded_timeout doubled_in halved_in halved encoded_timeout decoded_vcsel_period microseconds_of mclks_of timeout_clocks period_clocks pre_share final_clocks msrc_clocks msrc_time pre_time final_time timeout_place period_place less_place entries_of first_match first_place dss_or_msrc step_sum budget_sum used_sum measurement_timing_budget word_of_sum word_within final_range_word signal_rate_limit_word signal_rate_limit_bits rate_of in_range literal round units odd size climb span of_bits of_fields to_bits le lt eq
 rust_agrees = record {
   bring_ups_agree = refl;
   in_use_agrees = refl;
@@ -32,4 +32,5 @@ rust_agrees = record {
   at_once_agree = refl;
   random_calls = refl;
   random_bring_ups_agree = refl;
+  later_calls_agree = refl;
 }

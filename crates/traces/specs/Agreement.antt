@@ -1,5 +1,6 @@
 -- The runs of the Rust, and the claim that the definitions of the session do the same.
-use Rattle.traces.specs.Trace.{Agree}
+use Rattle.session.specs.declared.Rules.{Rules}
+use Rattle.traces.specs.Trace.{Agree, AgreeBy}
 use Rattle.traces.specs.BringUp.{bring_ups}
 use Rattle.traces.specs.InUse.{in_use}
 use Rattle.traces.specs.Measuring.{measuring}
@@ -13,6 +14,7 @@ use Rattle.traces.specs.Panics.{places}
 use Rattle.traces.specs.AtOnce.{at_once}
 use Rattle.traces.specs.Random.{random}
 use Rattle.traces.specs.RandomBringUp.{random_bring_ups}
+use Rattle.traces.specs.LaterCalls.{later_calls}
 
 pub record RustAgrees : Type 0 where
   pub bring_ups_agree : Agree bring_ups
@@ -28,3 +30,5 @@ pub record RustAgrees : Type 0 where
   pub at_once_agree : Agree at_once
   pub random_calls : Agree random
   pub random_bring_ups_agree : Agree random_bring_ups
+  -- by the current rules: the first have no later call
+  pub later_calls_agree : AgreeBy Rules.Current later_calls

@@ -12,4 +12,5 @@ pub mod Panics
 pub mod AtOnce
 pub mod Random
 pub mod RandomBringUp
+pub mod LaterCalls
 pub mod Agreement

@@ -44,12 +44,15 @@ pub record Seen : Type 0 where
 abbrev pub seen_of : Run → Seen
 seen_of r = record { lines = lines_of r.history []; session = r.session }
 
--- by the first rules: the traces are of lib.rs as it is
-abbrev pub by_definitions : Trace → Seen
-by_definitions t = seen_of (run_def Rules.First (holding t.before) (bytes_in t.steps))
+abbrev pub by_definitions : Rules → Trace → Seen
+by_definitions rules t = seen_of (run_def rules (holding t.before) (bytes_in t.steps))
 
 abbrev pub by_rust : Trace → Seen
 by_rust t = record { lines = lines_in t.steps; session = holding t.after }
 
+abbrev pub AgreeBy : Rules → List Trace → Type 0
+AgreeBy rules ts = map (by_definitions rules) ts ≡ map by_rust ts
+
+-- by the first rules: the traces are of lib.rs as it is
 abbrev pub Agree : List Trace → Type 0
-Agree ts = map by_definitions ts ≡ map by_rust ts
+Agree ts = AgreeBy Rules.First ts

@@ -95,6 +95,7 @@ fn what_follows_a_failure() {
     readings::while_continuous(&mut table);
     readings::started_or_stopped(&mut table);
     settings::the_next_setting(&mut table);
+    settings::a_lost_setting_is_read_back(&mut table);
     settings::after_set_address(&mut table);
     bring_ups::the_next_bring_up(&mut table);
     restarts::a_reading_goes_on(&mut table);

@@ -43,6 +43,13 @@ fn ready_for(call: Call, seed: u64) -> Rig {
     }
 }
 
+/// What a setting leaves in a sensor that takes it.
+fn taken(rig: &Rig, setting: Call) -> Vec<u8> {
+    let mut whole = rig.clone();
+    assert_eq!(whole.call(setting), Answer::Done(0));
+    set(setting, &whole.sensor)
+}
+
 /// Whether the setting is Done while the sensor has not taken it; none where it is not Done.
 fn is_lost(mut rig: Rig, setting: Call, taken: &[u8]) -> Option<bool> {
     (rig.call(setting) == Answer::Done(0)).then(|| set(setting, &rig.sensor) != taken)
@@ -56,9 +63,7 @@ pub fn the_next_setting(table: &mut Table) {
         for call in broken_calls() {
             let ready = ready_for(call, seed);
             for setting in SETTINGS {
-                let mut whole = ready.clone();
-                assert_eq!(whole.call(setting), Answer::Done(0));
-                let taken = set(setting, &whole.sensor);
+                let taken = taken(&ready, setting);
                 for (rig, _) in ready.broken(call) {
                     if let Some(is_lost) = is_lost(rig.clone(), setting, &taken) {
                         lost.entry(code(setting)).or_default().add(is_lost);
@@ -85,6 +90,35 @@ pub fn the_next_setting(table: &mut Table) {
     table.never("not taken: one single reading thrown away first", thrown);
     table.never("not taken: page 0 by hand first", by_hand);
     table.never("not taken: page 0 by hand, one thrown away, a pause, call 13 first", recovered);
+}
+
+/// Settings, with the calls that read them back and what these give then.
+const READ_BACK: [(Call, Call, u32); 2] = [
+    (Call::SetInterruptThresholdsMm(100, 300), Call::GetInterruptThresholdsMm, 100 << 16 | 300),
+    (Call::SetSignalRateLimit(1.0), Call::GetSignalRateLimit, 0x3F80_0000),
+];
+
+/// Any call breaks, something is set that the sensor does not take, and that is read back.
+pub fn a_lost_setting_is_read_back(table: &mut Table) {
+    let (mut as_set, mut by_hand) = <(Count, Count)>::default();
+    for seed in SEEDS {
+        for call in broken_calls() {
+            let ready = ready_for(call, seed);
+            for (setting, reading, value) in READ_BACK {
+                let taken = taken(&ready, setting);
+                for (rig, _) in ready.broken(call) {
+                    if is_lost(rig.clone(), setting, &taken) == Some(true) {
+                        let mut lost = rig.after(setting);
+                        as_set.add(lost.call(reading) == Answer::Done(value));
+                        by_hand.add(lost.selected().call(reading) == Answer::Done(value));
+                    }
+                }
+            }
+        }
+    }
+    table.title("a window or a limit that is Done and was not taken by the sensor; then call 11 or 16");
+    table.always("as it was set", as_set);
+    table.never("as it was set: page 0 by hand first", by_hand);
 }
 
 /// Call 3 breaks: the sensor may be at either address.

@@ -12,6 +12,7 @@ pub const CALLS: &[Call] = &[
     Call::GetInterruptThresholdsMm,
     Call::SetGpioConfig(GpioFunctionality::LevelLow, GpioPolarity::ActiveLow),
     Call::SetSignalRateLimit(0.5),
+    Call::GetSignalRateLimit,
     Call::ReadRangeSingleMillimetersBlocking,
     Call::ClearInterruptStatus,
     Call::StartContinuous(50),

@@ -22,6 +22,7 @@ pub fn run(tally: &mut Tally) {
     waits(tally);
     addresses(tally);
     arguments(tally);
+    limits(tally);
     periods(tally);
     budgets(tally);
     bring_up_budgets(tally);
@@ -221,6 +222,24 @@ fn arguments(tally: &mut Tally) {
         for polarity in POLARITIES {
             assert_eq!(sides.make(Call::SetGpioConfig(functionality, polarity)), DONE);
         }
+    }
+}
+
+/// Every word as the limit that the sensor holds; each is set again as it was read.
+fn limits(tally: &mut Tally) {
+    let mut sides = up("limits", tally);
+    for word in 0..=u16::MAX {
+        let mut held = |written: &[u8], read: &mut [u8]| {
+            if written == [0x44] {
+                read.copy_from_slice(&word.to_be_bytes());
+            }
+        };
+        let bits = (f32::from(word) / 128.0).to_bits();
+        assert_eq!(sides.make_with(Call::GetSignalRateLimit, &mut held), Answer(0, bits), "{word}");
+        // Only the greatest word reads as a limit above 511.99.
+        let (number, left) = if word < u16::MAX { (0, word) } else { (1, u16::MAX - 1) };
+        assert_eq!(sides.make(Call::SetSignalRateLimit(bits)), Answer(number, 0), "{word}");
+        assert_eq!(sides.sensor.word(0x44), left);
     }
 }
 

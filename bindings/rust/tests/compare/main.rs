@@ -1,9 +1,10 @@
 //! The exported functions against the Rust driver that was ported, built with overflow checks.
 //!
 //! Each call is made on the Rust driver first, with a simulated sensor on its bus, and each transfer is kept with its
-//! reply. Then the exported functions get the record of the call and the same replies. They have to make the same
-//! transfers, byte by byte, give the same answer (a panic is answer 8 with its place), and leave the same fields; what
-//! is out and the count of transfers are tested at each step, and records that have to be refused come in between.
+//! reply; call 16, which it does not have, is made by the function that oracle/src/later.rs gives it. Then the exported
+//! functions get the record of the call and the same replies. They have to make the same transfers, byte by byte, give
+//! the same answer (a panic is answer 8 with its place), and leave the same fields; what is out and the count of
+//! transfers are tested at each step, and records that have to be refused come in between.
 //!
 //! Arguments: how many seeds for random calls (1000 if none), the first seed (1 if none).
 

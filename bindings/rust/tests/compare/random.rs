@@ -34,7 +34,7 @@ fn bring_up(numbers: &mut Numbers, sides: &Sides) -> Call {
 }
 
 fn call(numbers: &mut Numbers) -> Call {
-    match numbers.below(16) {
+    match numbers.below(17) {
         0 => Call::WhoAmI,
         1 => Call::SetAddress(numbers.byte()),
         2 => Call::StartContinuous(0),
@@ -51,6 +51,7 @@ fn call(numbers: &mut Numbers) -> Call {
         13 => Call::ClearInterruptStatus,
         14 if numbers.one_in(3) => Call::SetSignalRateLimit(numbers.next() as u32),
         14 => Call::SetSignalRateLimit((115 + numbers.below(22)) << 23 | numbers.below(1 << 23)),
+        15 => Call::GetSignalRateLimit,
         _ => Call::GetBudget,
     }
 }

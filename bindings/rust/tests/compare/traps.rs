@@ -12,6 +12,8 @@ const BRING_UP: Call = Call::WithAddress(ADDRESS);
 const CODE: NonZeroU8 = NonZeroU8::new(7).unwrap();
 const BUS_ERROR: Answer = Answer(3, 7);
 const DONE: Answer = Answer(0, 0);
+/// The bits of the limit 1.0.
+const ONE: u32 = 0x3F80_0000;
 
 pub fn run(tally: &mut Tally) {
     old_distance(tally);
@@ -43,17 +45,21 @@ fn old_distance(tally: &mut Tally) {
     assert_eq!(sides.make(Call::ReadRangeSingle), Answer(0, 900));
 }
 
-/// Page 1 stays selected: the next settings go there.
+/// Page 1 stays selected: the next settings go there, and what is read back comes from there.
 fn lost_settings(tally: &mut Tally) {
     for transfer in 3..=6 {
         let mut sides = up("lost settings", tally);
         break_at(&mut sides, transfer, Failure::NotMade, Call::ReadRangeSingle);
-        let before = [0x71, 0x0E, 0x0C].map(|register| sides.sensor.word(register));
+        let words = |sides: &Sides| [0x71, 0x0E, 0x0C, 0x44].map(|register| sides.sensor.word(register));
+        let before = words(&sides);
         // On page 1 the budget reads find no timeouts, so that time is left for any budget.
         assert_eq!(sides.make(Call::SetBudget(50_000)), DONE);
         assert_eq!(sides.make(Call::SetThresholds(100, 300)), DONE);
+        assert_eq!(sides.make(Call::GetThresholds), Answer(0, 100 << 16 | 300));
+        assert_eq!(sides.make(Call::SetSignalRateLimit(ONE)), DONE);
+        assert_eq!(sides.make(Call::GetSignalRateLimit), Answer(0, ONE));
         assert_eq!(sides.make(Call::SetAddress(0x30)), DONE);
-        assert_eq!([0x71, 0x0E, 0x0C].map(|register| sides.sensor.word(register)), before);
+        assert_eq!(words(&sides), before);
         let fields = sides.fields.as_ref().expect("up");
         assert_eq!((fields.measurement_timing_budget_microseconds, fields.address), (50_000, 0x30));
         assert_eq!(sides.sensor.address(), ADDRESS);
