@@ -1,5 +1,5 @@
 -- Call 16 over its reply, and call 14 with its value: the Rust's scripts, by demand 2, with the leaf's laws of a word that is read back.
-use mathlib.Core.Path.{◌≡◌, refl, sym, ap, ◌∙◌}
+use mathlib.Core.Path.{◌≡◌, refl, sym, ap, subst, ◌∙◌}
 use mathlib.Core.Bool.{Bool, true, false}
 use mathlib.Core.List.{List, [], ◌∷◌}
 use Prim.Native.Nat.{ℕ, zero, suc, ◌/◌, ◌%◌, ◌<◌}
@@ -25,7 +25,7 @@ use Rattle.session.specs.Refusals.{call_rows}
 use Rattle.session.specs.Claim2.{while_up, Accepted}
 use Rattle.session.specs.Claim3.{good1, good2}
 use Rattle.session.specs.AnySession.{word_sent, answers_of, EachAnswer}
-use Rattle.session.specs.ReadLimit.{limit_word_of, ReadsLimit, LimitRead, sets, SetsWhatWasRead, DeclinesTheLast}
+use Rattle.session.specs.ReadLimit.{limit_word_of, ReadsLimit, sets, SetsLimit, LimitRead, SetsWhatWasRead, DeclinesTheLast}
 use Rattle.ground.proofs.Facts.{untrue, or_parts}
 use Rattle.session.proofs.Strays.{sound_step}
 use Rattle.session.proofs.Refused.{sound_of}
@@ -95,13 +95,22 @@ abbrev by_word : Driver → Option ℕ → Trace
 by_word d None = ends Answer.False d
 by_word d (Some w) = sends (transfer_of d.address (0x44 ∷ word_sent w) 1) (ends (Answer.Done 0) d)
 
-rust_sets : (d : Driver) (v ignored : ℕ) → play (rust Rules.Current d 14 v 0) (good1 ignored ∷ []) ≡ by_word d (signal_rate_limit_word v)
+rust_sets : (rules : Rules) (d : Driver) (v ignored : ℕ) → play (rust rules d 14 v 0) (good1 ignored ∷ []) ≡ by_word d (signal_rate_limit_word v)
 unfolding rust calls later_calls play heard
-rust_sets d v ignored = go (limit_contained v) refl
+rust_sets rules d v ignored = go (limit_contained v) refl
   where
-    go : (b : Bool) → limit_contained v ≡ b → play (rust Rules.Current d 14 v 0) (good1 ignored ∷ []) ≡ by_word d (signal_rate_limit_word v)
+    go : (b : Bool) → limit_contained v ≡ b → play (rust rules d 14 v 0) (good1 ignored ∷ []) ≡ by_word d (signal_rate_limit_word v)
     go true e = rw (accepted_is v e, e)
     go false e = rw (refused_is v e, e)
+
+sets_by_word : (rules : Rules) (s : Session) (v ignored : ℕ) → Accepted rules s 14 v 0 → sets rules v ignored s ≡ by_word s.driver (signal_rate_limit_word v)
+sets_by_word rules s v ignored accepted = demand_2 rules s 14 v 0 accepted (good1 ignored ∷ []) ∙ rust_sets rules s.driver v ignored
+
+pub sets_limit : (rules : Rules) (s : Session) (high low ignored : ℕ) → SetsLimit rules s high low ignored
+sets_limit rules s high low ignored h l le accepted =
+    sets_by_word rules s (signal_rate_limit_bits (limit_word_of high low)) ignored accepted
+    ∙ ap (by_word s.driver) (same (limit_word_of high low) le)
+    ∙ ap (λ bs. sends (transfer_of s.driver.address (0x44 ∷ bs) 1) (ends (Answer.Done 0) s.driver)) (bytes_of_word high low h l)
 
 module _ (s : Session) (high low v n : ℕ) (s' : Session) (r : LimitRead s high low v n s') where
   abbrev word : ℕ
@@ -136,18 +145,15 @@ module _ (s : Session) (high low v n : ℕ) (s' : Session) (r : LimitRead s high
         ready = while_up (ap (λ x. x.driver.up) left_is ∙ up_step s r.code good);
       }
 
-  by_rust : (ignored : ℕ) → sets v ignored s' ≡ by_word s'.driver (signal_rate_limit_word (signal_rate_limit_bits word))
-  by_rust ignored =
-      demand_2 Rules.Current s' 14 v 0 accepted (good1 ignored ∷ []) ∙ rust_sets s'.driver v ignored ∙ ap (λ b. by_word s'.driver (signal_rate_limit_word b)) value_is
-
 pub sets_what_was_read : (s : Session) (high low v n : ℕ) (s' : Session) (ignored : ℕ) → SetsWhatWasRead s high low v n s' ignored
 sets_what_was_read s high low v n s' ignored r le =
-    by_rust s high low v n s' r ignored
-    ∙ ap (by_word s'.driver) (same (limit_word_of high low) le)
-    ∙ ap (λ bs. sends (transfer_of s'.driver.address (0x44 ∷ bs) 1) (ends (Answer.Done 0) s'.driver)) (bytes_of_word high low r.high_byte r.low_byte)
+    let e : v ≡ signal_rate_limit_bits (limit_word_of high low) = value_is s high low v n s' r in
+    ap (λ b. sets Rules.Current b ignored s') e
+    ∙ sets_limit Rules.Current s' high low ignored r.high_byte r.low_byte le (subst (λ b. Accepted Rules.Current s' 14 b 0) e (accepted s high low v n s' r))
 
 pub declines_the_last : (s : Session) (v n : ℕ) (s' : Session) (ignored : ℕ) → DeclinesTheLast s v n s' ignored
-declines_the_last s v n s' ignored r = (
-  value_is s 255 255 v n s' r ∙ ap (λ l. get_or l 5 0) read_back.values,
-  by_rust s 255 255 v n s' r ignored ∙ ap (by_word s'.driver) read_back.last,
-)
+declines_the_last s v n s' ignored r =
+    let e : v ≡ signal_rate_limit_bits 65535 = value_is s 255 255 v n s' r in (
+      e ∙ ap (λ l. get_or l 5 0) read_back.values,
+      sets_by_word Rules.Current s' v ignored (accepted s 255 255 v n s' r) ∙ ap (λ b. by_word s'.driver (signal_rate_limit_word b)) e ∙ ap (by_word s'.driver) read_back.last,
+    )

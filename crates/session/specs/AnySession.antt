@@ -208,7 +208,8 @@ IgnoresReadBack rules s bs bs' =
     → zero_from (outstanding rules s).reads bs' ≡ true
     → step_def rules s (reply 0 bs) ≡ step_def rules s (reply 0 bs')
 
--- WRITES AND ANSWERS of carried bytes, in the formulas of lib.rs (RustClocks, RustBringUp, and LaterCalls in its manner), for all bytes. Words are sent high byte first
+-- WRITES AND ANSWERS of carried bytes, in the formulas of lib.rs (RustClocks, RustBringUp) and of LaterCalls, for all bytes. Words are sent high
+-- byte first
 abbrev pub word_sent : ℕ → List ℕ
 word_sent w = w / 256 % 256 ∷ w % 256 ∷ []
 

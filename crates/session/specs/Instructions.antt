@@ -61,7 +61,7 @@ pub data Final : Type 0 where
   failure : ℕ → Final
 
 -- slots of the carried bytes: identity, stop byte, a byte to be masked, detector byte of 0x92, range word,
--- first budget reads (also the oscillator word and the thresholds), second budget reads, detector map
+-- first budget reads (also the oscillator word, the thresholds and the word of the signal limit), second budget reads, detector map
 abbrev pub identity_slot : ℕ
 identity_slot = 0
 

@@ -46,7 +46,7 @@ abbrev pub range_row : ℕ → ℕ → ℕ × ℕ × ℕ × List Part
 range_row code first = (code, first, first + 1, failure_code ∷ range_byte_in 4 ∷ range_byte_in 5 ∷ [])
 
 -- what a reply at a step, and all that comes after it, may depend on. Slots: 1 the stop byte, 3 the byte of 0x92, 4 the range word,
--- 8 the first budget replies, the low threshold and the word of the signal limit, 16 the map and then the second budget replies
+-- 8 the first budget replies and the low threshold, 16 the map and then the second budget replies
 unfoldable pub needed_rows : Rows
 needed_rows =
     (1, 0, 155, argument_a ∷ [])

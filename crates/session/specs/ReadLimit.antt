@@ -27,6 +27,18 @@ ReadsLimit s high low =
     → Accepted Rules.Current s 16 0 0
     → drive Rules.Current (good2 high low ∷ []) (step_def Rules.Current s (call 16 0 0)) ≡ trace_of_call16 s.driver high low
 
+-- what is seen of call 14 with A = v, whose reply is good
+abbrev pub sets : Rules → ℕ → ℕ → Session → Trace
+sets rules v ignored s = drive rules (good1 ignored ∷ []) (step_def rules s (call 14 v 0))
+
+-- call 14 with the limit of a word, whenever it was read and by either rules: every session that accepts it sends 44 and the word
+abbrev pub SetsLimit : Rules → Session → ℕ → ℕ → ℕ → Type 0
+SetsLimit rules s high low ignored =
+    high < 256 → low < 256 → limit_word_of high low ≤ 65534
+    → Accepted rules s 14 (signal_rate_limit_bits (limit_word_of high low)) 0
+    → sets rules (signal_rate_limit_bits (limit_word_of high low)) ignored s
+    ≡ sends (transfer_of s.driver.address (0x44 ∷ high ∷ low ∷ []) 1) (ends (Answer.Done 0) s.driver)
+
 -- a session in which call 16 waits, also one that no run leaves, is answered `v` to a reply with these two bytes, and is `s'` then
 pub record LimitRead (s : Session) (high low v n : ℕ) (s' : Session) : Type 0 where
   pub code : s.code ≡ 16
@@ -36,16 +48,12 @@ pub record LimitRead (s : Session) (high low v n : ℕ) (s' : Session) : Type 0 
   pub low_byte : low < 256
   pub answered : step_def Rules.Current s (reply 0 (high ∷ low ∷ 0 ∷ 0 ∷ 0 ∷ 0 ∷ [])) ≡ answered (Answer.Done v) n s'
 
--- what is seen of call 14 with A = v, whose reply is good
-abbrev pub sets : ℕ → ℕ → Session → Trace
-sets v ignored s' = drive Rules.Current (good1 ignored ∷ []) (step_def Rules.Current s' (call 14 v 0))
-
 -- then call 14 with A = v sends 44 and the word that was read
 abbrev pub SetsWhatWasRead : Session → ℕ → ℕ → ℕ → ℕ → Session → ℕ → Type 0
 SetsWhatWasRead s high low v n s' ignored =
     LimitRead s high low v n s' → limit_word_of high low ≤ 65534
-    → sets v ignored s' ≡ sends (transfer_of s'.driver.address (0x44 ∷ high ∷ low ∷ []) 1) (ends (Answer.Done 0) s'.driver)
+    → sets Rules.Current v ignored s' ≡ sends (transfer_of s'.driver.address (0x44 ∷ high ∷ low ∷ []) 1) (ends (Answer.Done 0) s'.driver)
 
 -- of the word 65535 the value is 511.9921875: call 14 is accepted, answers 1, and sends nothing
 abbrev pub DeclinesTheLast : Session → ℕ → ℕ → Session → ℕ → Type 0
-DeclinesTheLast s v n s' ignored = LimitRead s 255 255 v n s' → (v ≡ 0x43FF_FF00) × (sets v ignored s' ≡ ends Answer.False s'.driver)
+DeclinesTheLast s v n s' ignored = LimitRead s 255 255 v n s' → (v ≡ 0x43FF_FF00) × (sets Rules.Current v ignored s' ≡ ends Answer.False s'.driver)
