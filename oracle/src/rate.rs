@@ -6,7 +6,7 @@ use crate::list::{Kind, List};
 use crate::numbers::Numbers;
 use vl53l0x::inner::{driver, get_signal_rate_limit, set_signal_rate_limit};
 
-/// Words to read: 0, powers of two and their neighbours, the highest, and two with unequal bytes.
+/// Words to read: 0, powers of two and their neighbours, the greatest, and two with unequal bytes.
 pub const WORDS: [u16; 19] =
     [0, 1, 2, 32, 127, 128, 129, 255, 256, 257, 0x1234, 0x3412, 32767, 32768, 32769, 65408, 65533, 65534, 65535];
 

@@ -121,11 +121,12 @@ def thresholds(value):
 
 
 def rate_limit(bits):
-    """The float with these bits. A word / 128 has at most ten digits."""
-    if bits > 0xFFFF_FFFF:
-        return f"{bits}, which is no float's bits"
-    (limit,) = struct.unpack(">f", struct.pack(">I", bits))
-    return f"{limit:.10g} MCPS"
+    """The float with these bits: a word / 128, which has at most ten digits."""
+    (limit,) = struct.unpack(">f", struct.pack(">I", bits & 0xFFFF_FFFF))
+    # From 0x80000000 on the sign is set, or there are more than 32 bits.
+    if bits < 0x8000_0000 and limit < 512 and (limit * 128).is_integer():
+        return f"{limit:.10g} MCPS"
+    return f"{bits}, which no word reads as"
 
 
 # All calls, in the order of their numbers. One that can go two ways has two rows.

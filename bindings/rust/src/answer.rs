@@ -52,7 +52,8 @@ impl Answer {
     }
 
     /// The value of [`Answer::Done`] as the limit that [`Call::GetSignalRateLimit`](crate::Call::GetSignalRateLimit)
-    /// has read, in million counts a second; any other answer is the error.
+    /// has read, in million counts a second; any other answer is the error. Of another call's value it makes a number that
+    /// means nothing.
     ///
     /// The limit is the sensor's word / 128, exactly, and setting it writes the same word. Only the greatest word,
     /// 65535, reads as a limit that is not set again: 511.9921875 is above 511.99, and answered [`Answer::False`].

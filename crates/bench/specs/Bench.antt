@@ -40,6 +40,7 @@ pub record BenchValues : Type 0 where
   -- SCOPE 2.6: by the first rules, for ever, and by the current ones
   pub call_9 : final_range_word reads (record { 0 = 33000 }) (dss_term_of Rules.First) ≡ Ok 0x0292
   pub call_9_now : final_range_word reads (record { 0 = 33000 }) (dss_term_of Rules.Current) ≡ Ok 0x0292
+  -- words of the signal limit, read
   pub limits : LimitValues
   -- the numbers and values of the answers, a fresh session's zeros, and the run of SCOPE 10.1
   pub session : (rules : Rules) → SessionValues rules

@@ -15,7 +15,7 @@ fn limit_line(rt: &impl Print, word: u16) -> io::Result<()> {
     let bits = rate::signal_rate_limit_bits(word);
     match rate::signal_rate_limit_word(bits) {
         Some(same) => println!(rt; "{word} reads {bits:08X}, which writes {same}"),
-        None => println!(rt; "{word} reads {bits:08X}, which is refused"),
+        None => println!(rt; "{word} reads {bits:08X}, out of range"),
     }
 }
 

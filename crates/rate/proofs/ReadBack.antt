@@ -112,7 +112,7 @@ same word h =
 
 pub read_back : ReadBack
 unfolding signal_rate_limit_word signal_rate_limit_bits rate_of in_range literal round units odd size climb span of_bits of_fields to_bits le lt eq
-read_back = record { fits = fits; exact = exact; only = only; same = same; last = refl; apart = apart; values = refl }
+read_back = record { fits = fits; exact = exact; only = only; same = same; greatest = refl; apart = apart; values = refl }
 
 -- ---- Rust: `word as f32 / 128.0`
 quotient_of : (x : Float) (word : ℕ) → HasValue x false word 1 → div binary32 x scale ≡ limit word

@@ -66,7 +66,9 @@ current_values = record {
   at_ceiling = refl;
   over_ceiling = refl;
   past_the_last = refl;
+  while_not_up = refl;
   limit = refl;
+  failed = refl;
   third_byte = refl;
   over_its_ceiling = refl;
 }

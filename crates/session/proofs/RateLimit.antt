@@ -10,7 +10,7 @@ use Rattle.rate.specs.Rate.{literal, in_range, rate_of, signal_rate_limit_word, 
 use Rattle.rate.proofs.Laws.{as_rust_lem, read_as_rust_lem}
 use Rattle.session.specs.Steps.{rate_in}
 use Rattle.session.specs.RustClocks.{limit_contained, limit_word}
-use Rattle.session.specs.LaterCalls.{limit_read}
+use Rattle.session.specs.LaterCalls.{limit_of_raw}
 
 pub contained_is : limit_contained ≡ (λ bits. in_range (of_bits binary32 bits))
 unfolding limit_contained in_range literal
@@ -30,8 +30,8 @@ refused_is bits h = rw h at (word_or bits)
 pub word_is : (bits : ℕ) → limit_contained bits ≡ true → limit_word bits ≡ rate_in (signal_rate_limit_word bits)
 word_is bits h = sym (ap rate_in (accepted_is bits h))
 
-pub read_is : limit_read ≡ (λ raw. signal_rate_limit_bits (raw % 65536))
-unfolding limit_read literal
+pub read_is : limit_of_raw ≡ (λ raw. signal_rate_limit_bits (raw % 65536))
+unfolding limit_of_raw literal
 read_is = fun_ext (λ raw. read_as_rust_lem (raw % 65536) (mod-lt raw (omega arith)))
 
 -- 0.25, the limit of a bring-up

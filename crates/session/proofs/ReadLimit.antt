@@ -20,12 +20,12 @@ use Rattle.session.specs.History.{step_def, session_of}
 use Rattle.session.specs.Script.{Trace, sends, ends, heard, play}
 use Rattle.session.specs.RustClocks.{limit_contained}
 use Rattle.session.specs.RustBringUp.{calls}
-use Rattle.session.specs.LaterCalls.{limit_read, later_calls, rust}
+use Rattle.session.specs.LaterCalls.{limit_of_raw, later_calls, rust}
 use Rattle.session.specs.Refusals.{call_rows}
 use Rattle.session.specs.Claim2.{while_up, Accepted}
 use Rattle.session.specs.Claim3.{good1, good2}
 use Rattle.session.specs.AnySession.{word_sent, answers_of, EachAnswer}
-use Rattle.session.specs.ReadLimit.{limit_word_of, ReadsLimit, sets, SetsLimit, LimitRead, SetsWhatWasRead, DeclinesTheLast}
+use Rattle.session.specs.ReadLimit.{limit_word_of, SessionReadsLimit, sets, SetsLimit, DeclinesGreatest, Answered16, SetsWhatWasRead, DeclinesTheGreatest}
 use Rattle.ground.proofs.Facts.{untrue, or_parts}
 use Rattle.session.proofs.Strays.{sound_step}
 use Rattle.session.proofs.Refused.{sound_of}
@@ -38,7 +38,7 @@ use Rattle.session.proofs.Demand2.{demand_2}
 word_lt : (high low : ℕ) → high < 256 → low < 256 → limit_word_of high low < 65536
 word_lt high low h l = omega arith
 
-limit_of : (high low : ℕ) → high < 256 → low < 256 → limit_read (limit_word_of high low) ≡ signal_rate_limit_bits (limit_word_of high low)
+limit_of : (high low : ℕ) → high < 256 → low < 256 → limit_of_raw (limit_word_of high low) ≡ signal_rate_limit_bits (limit_word_of high low)
 limit_of high low h l = rw read_is (ap signal_rate_limit_bits (mod-eq_of_lt (word_lt high low h l)))
 
 bytes_of_word : (high low : ℕ) → high < 256 → low < 256 → word_sent (limit_word_of high low) ≡ high ∷ low ∷ []
@@ -48,12 +48,12 @@ bytes_of_word high low h l =
     rw (p, q)
 
 -- ---- call 16 from its start
-rust_reads : (d : Driver) (high low : ℕ) → play (rust Rules.Current d 16 0 0) (good2 high low ∷ []) ≡ sends (transfer_of d.address (0x44 ∷ []) 2) (ends (Answer.Done (limit_read (limit_word_of high low))) d)
+rust_reads : (d : Driver) (high low : ℕ) → play (rust Rules.Current d 16 0 0) (good2 high low ∷ []) ≡ sends (transfer_of d.address (0x44 ∷ []) 2) (ends (Answer.Done (limit_of_raw (limit_word_of high low))) d)
 unfolding rust calls later_calls play heard
 rust_reads d high low = refl
 
-pub reads_limit : (s : Session) (high low : ℕ) → ReadsLimit s high low
-reads_limit s high low h l accepted =
+pub session_reads_limit : (s : Session) (high low : ℕ) → SessionReadsLimit s high low
+session_reads_limit s high low h l accepted =
     demand_2 Rules.Current s 16 0 0 accepted (good2 high low ∷ []) ∙ rust_reads s.driver high low
     ∙ ap (λ v. sends (transfer_of s.driver.address (0x44 ∷ []) 2) (ends (Answer.Done v) s.driver)) (limit_of high low h l)
 
@@ -112,7 +112,11 @@ sets_limit rules s high low ignored h l le accepted =
     ∙ ap (by_word s.driver) (same (limit_word_of high low) le)
     ∙ ap (λ bs. sends (transfer_of s.driver.address (0x44 ∷ bs) 1) (ends (Answer.Done 0) s.driver)) (bytes_of_word high low h l)
 
-module _ (s : Session) (high low v n : ℕ) (s' : Session) (r : LimitRead s high low v n s') where
+pub declines_limit : (rules : Rules) (s : Session) (ignored : ℕ) → DeclinesGreatest rules s ignored
+declines_limit rules s ignored accepted =
+    sets_by_word rules s (signal_rate_limit_bits 65535) ignored accepted ∙ ap (by_word s.driver) read_back.greatest
+
+module _ (s : Session) (high low v n : ℕ) (s' : Session) (r : Answered16 s high low v n s') where
   abbrev word : ℕ
   word = limit_word_of high low
 
@@ -126,7 +130,7 @@ module _ (s : Session) (high low v n : ℕ) (s' : Session) (r : LimitRead s high
   unfolding program_of programs
   clean = rw (out_at Rules.Current s 16 0 (Instruction.ReadWord 0x44 8) [] r.code (only_step s r.code good) refl) refl
 
-  answer_is : answered (Answer.Done v) n s' ≡ answered (Answer.Done (limit_read word)) s.transfers (resting s.driver)
+  answer_is : answered (Answer.Done v) n s' ≡ answered (Answer.Done (limit_of_raw word)) s.transfers (resting s.driver)
   answer_is = sym r.answered ∙ row_at s bytes (answers_of s bytes) 14 (carried_answers Rules.Current s bytes r.underway r.long clean) r.code (only_step s r.code good)
 
   value_is : v ≡ signal_rate_limit_bits word
@@ -151,9 +155,9 @@ sets_what_was_read s high low v n s' ignored r le =
     ap (λ b. sets Rules.Current b ignored s') e
     ∙ sets_limit Rules.Current s' high low ignored r.high_byte r.low_byte le (subst (λ b. Accepted Rules.Current s' 14 b 0) e (accepted s high low v n s' r))
 
-pub declines_the_last : (s : Session) (v n : ℕ) (s' : Session) (ignored : ℕ) → DeclinesTheLast s v n s' ignored
-declines_the_last s v n s' ignored r =
+pub declines_the_greatest : (s : Session) (v n : ℕ) (s' : Session) (ignored : ℕ) → DeclinesTheGreatest s v n s' ignored
+declines_the_greatest s v n s' ignored r =
     let e : v ≡ signal_rate_limit_bits 65535 = value_is s 255 255 v n s' r in (
       e ∙ ap (λ l. get_or l 5 0) read_back.values,
-      sets_by_word Rules.Current s' v ignored (accepted s 255 255 v n s' r) ∙ ap (λ b. by_word s'.driver (signal_rate_limit_word b)) e ∙ ap (by_word s'.driver) read_back.last,
+      ap (λ b. sets Rules.Current b ignored s') e ∙ declines_limit Rules.Current s' ignored (subst (λ b. Accepted Rules.Current s' 14 b 0) e (accepted s 255 255 v n s' r)),
     )

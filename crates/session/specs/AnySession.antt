@@ -15,7 +15,7 @@ use Rattle.session.specs.RustFn.{Chip, ◌>>◌, Ok}
 use Rattle.session.specs.RustClocks.{or_u8, and_u8, spad_count, type_is_aperture, threshold_raw, threshold_mm, limit_contained, limit_word}
 use Rattle.session.specs.RustCalls.{start_timed, get_measurement_timing_budget, set_budget_from_reads, set_measurement_timing_budget}
 use Rattle.session.specs.RustBringUp.{enable_ref_spads, method, constructed, number, flag, unit, calibration, budget_and_calibration}
-use Rattle.session.specs.LaterCalls.{limit_read}
+use Rattle.session.specs.LaterCalls.{limit_of_raw}
 use Rattle.session.specs.Claim1.{chip_address}
 use Rattle.session.specs.Claim2.{Accepted}
 use Rattle.session.specs.Claim3.{reported}
@@ -273,7 +273,7 @@ answers_of s bs =
     ∷ (12, 4, Answer.Done 0, s.driver)
     ∷ (13, 1, Answer.Done 0, s.driver)
     ∷ (14, 0, Answer.Done 0, s.driver)
-    ∷ (16, 0, Answer.Done (limit_read (word_at 0 bs)), s.driver)
+    ∷ (16, 0, Answer.Done (limit_of_raw (word_at 0 bs)), s.driver)
     ∷ []
 
 abbrev pub EachAnswer : Rules → Session → List ℕ → List (ℕ × ℕ × Answer × Driver) → Type 0

@@ -112,8 +112,10 @@ pub record CurrentValues : Type 0 where
   pub at_ceiling : replied1 Rules.Current (held 4 0 0 0 10 []) 0 ≡ sent (transfer_of 0x29 (0xFF ∷ 0x01 ∷ []) 1) (held 4 0 0 1 11 [])
   pub over_ceiling : replied1 Rules.Current (held 4 0 0 1 11 []) 0 ≡ broken (held 4 0 0 1 11 [])
   pub past_the_last : replied1 Rules.Current (held 17 0 0 0 1 []) 0 ≡ broken (held 17 0 0 0 1 [])
-  -- a call 16 that waits: its word, high byte first, and a count over its ceiling
+  -- SCOPE 5.12: call 16 while not up; where it waits its word, high byte first, a failed reply, a stray byte, and a count over its ceiling
+  pub while_not_up : refusal_number (step_def Rules.Current fresh_session (call 16 0 0)) ≡ 9
   pub limit : reply_def Rules.Current (held 16 0 0 0 1 []) 0 (0x00 ∷ 0x20 ∷ 0 ∷ 0 ∷ 0 ∷ 0 ∷ []) ≡ answered (Answer.Done 0x3E80_0000) 1 standing
+  pub failed : reply_def Rules.Current (held 16 0 0 0 1 []) 13 (0 ∷ 0 ∷ 0 ∷ 0 ∷ 0 ∷ 0 ∷ []) ≡ answered (Answer.BusError 13) 1 standing
   pub third_byte : reply_def Rules.Current (held 16 0 0 0 1 []) 0 (0x00 ∷ 0x20 ∷ 1 ∷ 0 ∷ 0 ∷ 0 ∷ []) ≡ refused Answer.StrayByte (held 16 0 0 0 1 [])
   pub over_its_ceiling : reply_def Rules.Current (held 16 0 0 0 2 []) 0 (0x00 ∷ 0x20 ∷ 0 ∷ 0 ∷ 0 ∷ 0 ∷ []) ≡ broken (held 16 0 0 0 2 [])
 

@@ -43,7 +43,7 @@ call_rows =
     ∷ row 15 0 0 6 6 [] ((1, 2) ∷ (2, 2) ∷ [])
     ∷ []
 
--- the calls that came later
+-- SCOPE 5.1: the calls that lib.rs does not have
 abbrev pub later_rows : List Row
 later_rows = row 16 0 0 1 1 [] ((0, 2) ∷ []) ∷ []
 
