@@ -9,6 +9,10 @@ use vl53l0x::VL53L0x;
 /// Transfers of a bring-up that reads once in each of its three waits.
 const BRING_UP: usize = 153 + 3;
 
+const SCATTERED: [u8; 6] = [0x0F, 0xF0, 0x03, 0x00, 0x80, 0x01];
+/// A few dead detectors in each byte but one.
+const DAMAGED: [u8; 6] = [0xF7, 0xDB, 0xFF, 0x7F, 0xBE, 0xEF];
+
 /// The map that bring-up writes, on a sensor that answers well.
 fn selection(map: [u8; 6], count: u8, aperture: bool) -> [u8; 6] {
     assert!(count < 128, "the sensor gives seven bits");
@@ -60,11 +64,22 @@ pub fn list() -> List {
             both(&mut list, bits(near_first_aperture), count);
         }
     }
+    // Where the count runs out at a byte's end, one detector before it, and one after it.
+    for map in [good, SCATTERED, DAMAGED] {
+        for bytes in 1..=6 {
+            for aperture in [false, true] {
+                let most = available(map, aperture, bytes);
+                for count in [most.saturating_sub(1), most, most + 1] {
+                    record(&mut list, map, count, aperture);
+                }
+            }
+        }
+    }
     let mut numbers = Numbers::new(2);
     for _ in 0..100 {
         let map = random_map(&mut numbers);
         for aperture in [false, true] {
-            let most = available(map, aperture);
+            let most = available(map, aperture, 6);
             for count in [most.saturating_sub(1), most, most + 1] {
                 record(&mut list, map, count, aperture);
             }
@@ -77,6 +92,9 @@ pub fn list() -> List {
     }
     list.must_have("spads FFFFFFFFFFFF 5 1 00F001000000 5");
     list.must_have("spads FFFFFFFFFFFF 0 1 000000000000 0");
+    list.must_have("spads FFFFFFFFFFFF 47 0 FFFFFFFFFF7F 47");
+    list.must_have("spads 0FF003008001 7 0 0F7000000000 7");
+    list.must_have("spads 0FF003008001 6 1 00F003000000 6");
     list
 }
 
@@ -89,7 +107,7 @@ fn record(list: &mut List, map: [u8; 6], count: u8, aperture: bool) {
     let new = selection(map, count, aperture);
     let flag = u8::from(aperture);
     let [a, b, c, d, e, f] = map;
-    let line = format!("spads {} {count} {flag} {} {}", hex(&map), hex(&new), ones(new));
+    let line = format!("spads {} {count} {flag} {} {}", hex(&map), hex(&new), ones(&new));
     list.record(Kind::Map, &[a, b, c, d, e, f, count, flag], &line, &[]);
 }
 
@@ -101,14 +119,15 @@ fn bits(positions: &[usize]) -> [u8; 6] {
     map
 }
 
-fn ones(map: [u8; 6]) -> u8 {
-    map.iter().map(|byte| byte.count_ones() as u8).sum()
+fn ones(bytes: &[u8]) -> u8 {
+    bytes.iter().map(|byte| byte.count_ones() as u8).sum()
 }
 
-/// The good detectors from the first that may be used: only chooses counts.
-fn available(map: [u8; 6], aperture: bool) -> u8 {
-    let [a, b, c, d, e, f] = map;
-    ones(if aperture { [0, b & 0xF0, c, d, e, f] } else { [a, b, c, d, e, f] })
+/// The good detectors that may be used in the first bytes of a map: only chooses counts.
+fn available(map: [u8; 6], aperture: bool, bytes: usize) -> u8 {
+    let [_, b, c, d, e, f] = map;
+    let usable = if aperture { [0, b & 0xF0, c, d, e, f] } else { map };
+    ones(&usable[..bytes])
 }
 
 /// A map in which each detector is good with one of the chances 1/8 to 7/8.

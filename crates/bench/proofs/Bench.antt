@@ -1,7 +1,8 @@
 -- The bench values hold: each definition is computed at its case.
 use mathlib.Core.Path.{refl}
+use lib.Count.{ones}
 use Rattle.clock.specs.Clock.{decoded_timeout, halved_in, halved, encoded_timeout, decoded_vcsel_period, microseconds_of, mclks_of}
-use Rattle.spad.specs.Map.{bits_of, byte_of, map_bits, map_bytes, keep, selected}
+use Rattle.spad.specs.Map.{bits_of, byte_of, map_bits, map_bytes, keep, selected, ones_in}
 use Rattle.rate.proofs.ReadBack.{read_back}
 use Rattle.timing.specs.Timeouts.{timeout_clocks, period_clocks, pre_share, final_clocks, msrc_clocks, msrc_time, pre_time, final_time}
 use Rattle.timing.specs.Places.{timeout_place, period_place, less_place, entries_of, first_match, first_place}
@@ -11,7 +12,7 @@ use Rattle.session.proofs.Bench.{first_values, current_values, session_values}
 use Rattle.bench.specs.Bench.{BenchValues}
 
 pub bench : BenchValues
-unfolding decoded_timeout halved_in halved encoded_timeout decoded_vcsel_period microseconds_of mclks_of bits_of byte_of map_bits map_bytes keep selected timeout_clocks period_clocks pre_share final_clocks msrc_clocks msrc_time pre_time final_time timeout_place period_place less_place entries_of first_match first_place dss_or_msrc step_sum budget_sum used_sum measurement_timing_budget word_of_sum word_within final_range_word
+unfolding decoded_timeout halved_in halved encoded_timeout decoded_vcsel_period microseconds_of mclks_of bits_of byte_of map_bits map_bytes keep selected ones_in ones timeout_clocks period_clocks pre_share final_clocks msrc_clocks msrc_time pre_time final_time timeout_place period_place less_place entries_of first_match first_place dss_or_msrc step_sum budget_sum used_sum measurement_timing_budget word_of_sum word_within final_range_word
 bench = record {
   decode_0000 = refl;
   decode_0FFF = refl;
@@ -28,6 +29,10 @@ bench = record {
   macro_14 = refl;
   map_5 = refl;
   map_0 = refl;
+  map_7 = refl;
+  map_6 = refl;
+  map_255 = refl;
+  map_47 = refl;
   call_15 = refl;
   call_9 = refl;
   call_9_now = refl;

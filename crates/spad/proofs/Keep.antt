@@ -117,7 +117,7 @@ step (suc k) b s n bit s' n' h w =
     (ap (λ (j : ℕ). j + 2 * byte_of (keep s' n' xs)) (bit_is bit w.small))
 
 -- ---- two lists in a row: after xs, what is left to skip, and how many good bits are still wanted
-keep_append : (ys : List Bool) (s n : ℕ) (xs : List Bool)
+pub keep_append : (ys : List Bool) (s n : ℕ) (xs : List Bool)
     → keep s n (xs ++ ys) ≡ keep s n xs ++ keep (s - length xs) (n - trues (keep s n xs)) ys
 unfolding keep trues
 keep_append ys s n [] = simp sub-zero

@@ -107,7 +107,7 @@ kept_at (suc s) n zero (x ∷ xs) = rw (leb-suc-zero s, and-false)
 kept_at (suc s) n (suc i) (x ∷ xs) = rw (leb-suc-suc s i, suc-sub-suc) (kept_at s n i xs)
 
 -- ---- how many bits are kept
-trues_append : (xs ys : List Bool) → trues (xs ++ ys) ≡ trues xs + trues ys
+pub trues_append : (xs ys : List Bool) → trues (xs ++ ys) ≡ trues xs + trues ys
 unfolding trues
 trues_append [] ys = omega arith
 trues_append (x ∷ xs) ys = let h = trues_append xs ys in omega arith

@@ -4,7 +4,8 @@
 
 ghost use Rattle.std.specs.Prelude.{◌≡◌, ◌≤◌};
 ghost use Rattle.spad.specs.Map.{bits_of, byte_of, keep, first_spad, select_spads};
-ghost use Rattle.spad.specs.Walk.{BitWalked, ByteWalked};
+ghost use Rattle.spad.specs.Bytes.{byte_kept};
+ghost use Rattle.spad.specs.Walk.{BitWalked, IsCut, ByteWalked};
 
 // The new map, and how many detectors it keeps.
 #[derive(Clone, Copy)]
@@ -73,11 +74,32 @@ fn keep_bits(n: u8, b: u8, left: Left) -> u8
     s.bit + 2 * keep_bits(n - 1, b / 2, s.left)
 }
 
+// Walks a byte in which the start stands or the count runs out. No other byte is walked.
+fn walk_bits(b: u8, left: Left) -> u8
+    requires { IsCut b left.skip left.wanted }
+    ensures { result ≡ byte_kept left.skip left.wanted b }
+{
+    keep_bits(8, b, left)
+}
+
+// A byte with the detectors that are kept of it: none before the start or once no more are wanted, and all where the count covers the good ones.
+fn byte_kept(b: u8, left: Left) -> u8
+    ensures { result ≡ byte_kept left.skip left.wanted b }
+{
+    if 8 <= left.skip || left.wanted == 0 {
+        return 0;
+    }
+    if left.skip == 0 && u8::count_ones(b) <= left.wanted {
+        return b;
+    }
+    walk_bits(b, left)
+}
+
 // A byte of the map, masked, with its ones counted.
 fn walk_byte(b: u8, left: Left) -> Walk
     ensures { ByteWalked b left.skip left.wanted result.byte result.kept result.left.skip result.left.wanted }
 {
-    let byte = keep_bits(8, b, left);
+    let byte = byte_kept(b, left);
     let kept = u8::count_ones(byte);
     Walk {
         byte,

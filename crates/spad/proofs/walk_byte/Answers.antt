@@ -16,13 +16,13 @@ module _ (r b skip n : ℕ) (masked : r ≡ byte_of (keep skip n (bits_of 8 b)))
 
 pub overflow_sub-result : goal.overflow_sub-result
 overflow_sub-result c =
-    let k = c.keep_bits-byte in
+    let k = c.byte_kept-byte in
     let a = c.args in
     omega (arith, wanted-most k.result a.b a.left.skip a.left.wanted k.ensures)
 
 pub returns : goal.returns
 returns c =
-    let k = c.keep_bits-byte in
+    let k = c.byte_kept-byte in
     let a = c.args in
     record {
       walked = k.ensures;
