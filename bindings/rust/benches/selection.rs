@@ -1,6 +1,7 @@
-//! One selection of detectors: the step of the library that sends the new map, and lib.rs's loop over the map. `bindings/cost`
-//! runs this under callgrind, which writes down its count and begins anew where one of the four functions here returns
-//! whose names begin with `count`. So each case gives four counts; the first of them is of all that made the case.
+//! One selection of detectors: the step of the library that sends the new map, and lib.rs's loop over the map.
+//! `bindings/cost` runs this under callgrind, which writes down its count and begins anew where a function returns whose
+//! name begins with `count`. So a case gives four counts: of all that made it, of the step before the one that sends the
+//! map, of that one, and of the loop.
 
 use std::hint::black_box;
 use vl53l0x_session::{exported, Call, Outcome, Session};
@@ -57,12 +58,6 @@ extern "C" fn count_from_here() {
 
 #[no_mangle]
 #[inline(never)]
-extern "C" fn count_step_before(step: &mut Step) {
-    step.make();
-}
-
-#[no_mangle]
-#[inline(never)]
 extern "C" fn count_step(step: &mut Step) {
     step.make();
 }
@@ -85,7 +80,7 @@ fn main() {
                 let (mut step, mut before) = Step::of_the_map(map, count, aperture);
                 let mut new = black_box(map);
                 count_from_here();
-                count_step_before(&mut before);
+                count_step(&mut before);
                 count_step(&mut step);
                 count_loop(&mut new, count, aperture.into());
                 assert_eq!(step.outcome[4..10], new, "lib.rs selects the same");

@@ -41,11 +41,11 @@ pub record BenchValues : Type 0 where
   pub macro_14 : macro_period (record { 0 = 14 }) ≡ record { 0 = 53384 }
   pub map_5 : selected all_good 5 true ≡ 0x00 ∷ 0xF0 ∷ 0x01 ∷ 0x00 ∷ 0x00 ∷ 0x00 ∷ []
   pub map_0 : selected all_good 0 true ≡ 0x00 ∷ 0x00 ∷ 0x00 ∷ 0x00 ∷ 0x00 ∷ 0x00 ∷ []
-  -- the count runs out in byte 1, and at the end of byte 2; it covers all; one is wanted too few
-  pub map_7 : select_spads scattered 7 false ≡ record { map = 0x0F ∷ 0x70 ∷ 0x00 ∷ 0x00 ∷ 0x00 ∷ 0x00 ∷ []; kept = 7 }
-  pub map_6 : select_spads scattered 6 true ≡ record { map = 0x00 ∷ 0xF0 ∷ 0x03 ∷ 0x00 ∷ 0x00 ∷ 0x00 ∷ []; kept = 6 }
   pub map_255 : select_spads all_good 255 true ≡ record { map = 0x00 ∷ 0xF0 ∷ 0xFF ∷ 0xFF ∷ 0xFF ∷ 0xFF ∷ []; kept = 36 }
   pub map_47 : select_spads all_good 47 false ≡ record { map = 0xFF ∷ 0xFF ∷ 0xFF ∷ 0xFF ∷ 0xFF ∷ 0x7F ∷ []; kept = 47 }
+  -- the count runs out inside a byte, and at the end of one
+  pub map_7 : select_spads scattered 7 false ≡ record { map = 0x0F ∷ 0x70 ∷ 0x00 ∷ 0x00 ∷ 0x00 ∷ 0x00 ∷ []; kept = 7 }
+  pub map_6 : select_spads scattered 6 true ≡ record { map = 0x00 ∷ 0xF0 ∷ 0x03 ∷ 0x00 ∷ 0x00 ∷ 0x00 ∷ []; kept = 6 }
   pub call_15 : measurement_timing_budget reads ≡ Ok (record { 0 = 31326 })
   -- SCOPE 2.6: by the first rules, for ever, and by the current ones
   pub call_9 : final_range_word reads (record { 0 = 33000 }) (dss_term_of Rules.First) ≡ Ok 0x0292

@@ -14,7 +14,7 @@ use Rattle.std.proofs.lemmas.Bool.{false_from_ne_true}
 use Rattle.std.proofs.lemmas.List.{length-take-le}
 use Rattle.std.proofs.lemmas.Nat.{zero_from_ones}
 use Rattle.spad.specs.Map.{bits_of, byte_of, map_bits, first_spad, keep, selected, trues}
-use Rattle.spad.specs.Bytes.{byte_kept, KeepsBytes, skip_at, wanted_at, byte_kept_at, SelectsBytes}
+use Rattle.spad.specs.Bytes.{byte_kept, KeepsBytes, skip_at, wanted_at, byte_kept_at, IsCutAt, SelectsBytes}
 use Rattle.spad.proofs.Keep.{length_bits, ones_byte, kept_count, keep_append, walked, selected_is}
 use Rattle.spad.proofs.Laws.{trues_append, length_map_bits}
 use Rattle.spad.proofs.Masks.{byte_bits}
@@ -39,7 +39,7 @@ module _ (b : ℕ) (small : b < 256) where
   good = sym (ones_byte (bits_of 8 b)) ∙ ap ones same
 
   module _ (n : ℕ) where
-    pub all_kept : ones b ≤ n → byte_kept 0 n b ≡ b
+    all_kept : ones b ≤ n → byte_kept 0 n b ≡ b
     all_kept h = rw (keep_all n (bits_of 8 b) (rw good h)) same
 
     few : byte_kept 0 n b ≡ b → ones b ≤ n
@@ -55,20 +55,29 @@ module _ (b : ℕ) (small : b < 256) where
     left : n - ones (byte_kept 0 n b) ≡ n - ones b
     left = omega (arith, kept_ones 0 n b, good)
 
-none_kept : (s n b : ℕ) → min n (trues (drop s (bits_of 8 b))) ≡ 0 → byte_kept s n b ≡ 0
-none_kept s n b h = zero_from_ones (byte_kept s n b) (kept_ones s n b ∙ h)
+none_kept : (s n b : ℕ) → min n (trues (drop s (bits_of 8 b))) ≡ 0 → 0 ≡ byte_kept s n b
+none_kept s n b h = sym (zero_from_ones (byte_kept s n b) (kept_ones s n b ∙ h))
 
-pub run_out : (s b : ℕ) → byte_kept s 0 b ≡ 0
-run_out s b = none_kept s 0 b (omega arith)
+-- the code's ways of a byte that it does not walk
+pub run_out : (s n b : ℕ) → n ≡ 0 → 0 ≡ byte_kept s n b
+run_out s n b e = none_kept s n b (omega arith)
 
-pub before : (s n b : ℕ) → 8 ≤ s → byte_kept s n b ≡ 0
+pub before : (s n b : ℕ) → 8 ≤ s → 0 ≡ byte_kept s n b
 unfolding trues
 before s n b h =
     let d : drop s (bits_of 8 b) ≡ [] = drop_of_length-le (bits_of 8 b) (rw (length_bits 8 b) h) in
     none_kept s n b (rw d (omega arith))
 
+pub left_whole : (s n b : ℕ) → b < 256 → s ≡ 0 → ones b ≤ n → b ≡ byte_kept s n b
+left_whole s n b small e h = rw e (sym (all_kept b small n h))
+
 pub keeps_bytes : (b n : ℕ) → b < 256 → KeepsBytes b n
-keeps_bytes b n small = record { whole = whole b small n; left = left b small n; run_out = λ s. run_out s b; before = λ s. before s n b }
+keeps_bytes b n small = record {
+  whole = whole b small n;
+  left = left b small n;
+  run_out = λ s. sym (run_out s 0 b refl);
+  before = λ s h. sym (before s n b h);
+}
 
 -- ---- the bytes of a map
 byte_of_map : (m : List ℕ) (i : ℕ) → i < length m → take 8 (drop (8 * i) (map_bits m)) ≡ bits_of 8 (get_or m i 0)
@@ -103,6 +112,10 @@ drop_of_take (suc s) (suc k) (x ∷ l) = rw suc-sub-suc (drop_of_take s k l)
 wanted_is : (m : List ℕ) (s n i : ℕ) → n - trues (keep s n (take (8 * i) (map_bits m))) ≡ n - trues (take (8 * i - s) (drop s (map_bits m)))
 wanted_is m s n i = omega (arith, kept_count s n (take (8 * i) (map_bits m)), ap trues (drop_of_take s (8 * i) (map_bits m)))
 
+start_low : (aperture : Bool) → first_spad aperture ≤ 12
+start_low true = omega arith
+start_low false = omega arith
+
 module _ (m : List ℕ) (count : ℕ) (aperture : Bool) (six : length m ≡ 6) where
   each : (i : ℕ) → i < 6 → get_or (selected m count aperture) i 0 ≡ byte_kept_at m count aperture i
   each i h =
@@ -128,7 +141,23 @@ module _ (m : List ℕ) (count : ℕ) (aperture : Bool) (six : length m ≡ 6) w
   cleared : (i j : ℕ) → i ≤ j → j < 6 → wanted_at m count aperture i ≡ 0 → get_or (selected m count aperture) j 0 ≡ 0
   cleared i j l h e =
       let d : i + (j - i) ≡ j = omega arith in
-      each j h ∙ rw (rw d at (stays_out i (j - i) (omega arith) e)) (run_out (skip_at aperture j) (get_or m j 0))
+      each j h ∙ rw (rw d at (stays_out i (j - i) (omega arith) e)) (sym (run_out (skip_at aperture j) 0 (get_or m j 0) refl))
 
-pub selects_bytes : (m : List ℕ) (count : ℕ) (aperture : Bool) → length m ≡ 6 → SelectsBytes m count aperture
-selects_bytes m count aperture six = record { each = each m count aperture six; next = next m count aperture six; cleared = cleared m count aperture six }
+  two : ((i : ℕ) → get_or m i 0 < 256) → (i j k : ℕ) → i < j → j < k → k < 6
+      → IsCutAt m count aperture i → IsCutAt m count aperture j → wanted_at m count aperture k ≡ 0
+  two small i j k p q h a b =
+      let s = first_spad aperture in
+      let z : skip_at aperture j ≡ 0 = omega (arith, start_low aperture, a.started) in
+      let o : ones (byte_kept_at m count aperture j) ≡ min (wanted_at m count aperture j) (ones (get_or m j 0)) =
+      rw z (kept_ones 0 (wanted_at m count aperture j) (get_or m j 0) ∙ rw (good (get_or m j 0) (small j)) refl) in
+      let w : wanted_at m count aperture (j + 1) ≡ 0 = omega (arith, next j (omega arith), o, b.short z) in
+      let e : j + 1 + (k - (j + 1)) ≡ k = omega arith in
+      rw e at (stays_out (j + 1) (k - (j + 1)) (omega arith) w)
+
+pub selects_bytes : (m : List ℕ) (count : ℕ) (aperture : Bool) → length m ≡ 6 → ((i : ℕ) → get_or m i 0 < 256) → SelectsBytes m count aperture
+selects_bytes m count aperture six small = record {
+  each = each m count aperture six;
+  next = next m count aperture six;
+  cleared = cleared m count aperture six;
+  two = two m count aperture six small;
+}

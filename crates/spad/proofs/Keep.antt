@@ -14,7 +14,7 @@ use Rattle.std.proofs.lemmas.List.{take_more_set, take_all, append_assoc, append
 use lib.Count.{ones, ones_step}
 use lib.Pow.{pow_mono}
 use Rattle.spad.specs.Map.{bits_of, byte_of, map_bits, map_bytes, first_spad, keep, selected, ones_in, trues}
-use Rattle.spad.specs.Walk.{BitWalked, ByteWalked}
+use Rattle.spad.specs.Walk.{BitWalked, ByteMasked}
 
 -- ---- one bit
 pred_is : (s : ℕ) → suc s - 1 ≡ s
@@ -157,7 +157,7 @@ unfolding walked
 none_more m out i s n h l = rw (drop_of_length-le m h, append-nil, take_all i out l)
 
 -- one byte more is walked and written
-module _ (m out : List ℕ) (i s n byte k s' n' : ℕ) (h : i < length m) (l : i < length out) (w : ByteWalked (get_or m i 0) s n byte k s' n') where
+module _ (m out : List ℕ) (i s n byte k s' n' : ℕ) (h : i < length m) (l : i < length out) (w : ByteMasked (get_or m i 0) s n byte k s' n') where
   pub one_more : take (i + 1) (set out i byte) ++ walked s' n' (drop (i + 1) m) ≡ take i out ++ walked s n (drop i m)
   unfolding walked
   one_more = rw (take_more_set out i byte l, drop-cons m i 0 h, append_assoc, w.next_skip, w.next_wanted, w.counted, w.walked, add-one)

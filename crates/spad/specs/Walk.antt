@@ -1,5 +1,5 @@
 -- What the private functions ensure of one bit and of one byte. The public contract does not rest on these.
-use Rattle.std.specs.Prelude.{◌≡◌, Bool, List, ◌∷◌, ℕ, ◌%◌, ◌-◌, ◌≤◌, ◌<◌, eqb}
+use Rattle.std.specs.Prelude.{◌≡◌, Bool, List, ◌∷◌, ℕ, ◌%◌, ◌-◌, ◌≤◌, eqb}
 use Rattle.std.specs.Int.Count.{ones}
 use Rattle.spad.specs.Map.{keep}
 use Rattle.spad.specs.Bytes.{byte_kept}
@@ -9,14 +9,8 @@ pub record BitWalked (b skip wanted bit skip' wanted' : ℕ) : Type 0 where
   pub small : bit ≤ 1
   pub walked : (xs : List Bool) → keep skip wanted (eqb (b % 2) 1 ∷ xs) ≡ eqb bit 1 ∷ keep skip' wanted' xs
 
--- the bytes whose bits are walked: some are still wanted, and the start stands inside the byte or the count runs out in it
-pub record IsCut (b skip wanted : ℕ) : Type 0 where
-  pub started : skip < 8
-  pub some : 0 < wanted
-  pub short : skip ≡ 0 → wanted < ones b
-
 -- a masked byte, its count of ones, and what is left for the next byte
-pub record ByteWalked (b skip wanted byte kept skip' wanted' : ℕ) : Type 0 where
+pub record ByteMasked (b skip wanted byte kept skip' wanted' : ℕ) : Type 0 where
   pub walked : byte ≡ byte_kept skip wanted b
   pub counted : kept ≡ ones byte
   pub few : kept ≤ 8

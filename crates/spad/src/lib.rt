@@ -2,10 +2,14 @@
 // lib.rs: init_hardware, the loop over 48 bits. Here the walk goes byte by byte, and carries how many bits to skip and how many good ones are wanted.
 #![tactic(auto)]
 
-ghost use Rattle.std.specs.Prelude.{◌≡◌, ◌≤◌};
-ghost use Rattle.spad.specs.Map.{bits_of, byte_of, keep, first_spad, select_spads};
+ghost use Rattle.std.specs.Prelude.{◌≡◌};
+ghost use Rattle.spad.specs.Map.{first_spad, select_spads};
 ghost use Rattle.spad.specs.Bytes.{byte_kept};
-ghost use Rattle.spad.specs.Walk.{BitWalked, IsCut, ByteWalked};
+ghost use Rattle.spad.specs.Walk.{ByteMasked};
+
+mod walk;
+
+use walk::walk_bits;
 
 // The new map, and how many detectors it keeps.
 #[derive(Clone, Copy)]
@@ -23,66 +27,14 @@ struct Left {
 
 // A masked byte, its count of ones, and what is left for the next byte.
 #[derive(Clone, Copy)]
-struct Walk {
+struct MaskedByte {
     byte: u8,
     kept: u32,
     left: Left,
 }
 
-// A masked bit, and what is left for the next bit.
-#[derive(Clone, Copy)]
-struct Step {
-    bit: u8,
-    left: Left,
-}
-
-// The lowest bit of `b`: cleared while bits are skipped, and once no more are wanted.
-fn keep_bit(b: u8, left: Left) -> Step
-    ensures { BitWalked b left.skip left.wanted result.bit result.left.skip result.left.wanted }
-{
-    if 0 < left.skip {
-        return Step {
-            bit: 0,
-            left: Left {
-                skip: left.skip - 1,
-                ..left
-            },
-        };
-    }
-    if left.wanted == 0 {
-        return Step { bit: 0, left };
-    }
-    let bit = b % 2;
-    Step {
-        bit,
-        left: Left {
-            wanted: left.wanted - bit as u32,
-            ..left
-        },
-    }
-}
-
-// The low `n` bits of `b`, from the lowest on. It calls itself on the bits above, as `keep` goes through a list.
-fn keep_bits(n: u8, b: u8, left: Left) -> u8
-    requires { n ≤ 8 }
-    ensures { result ≡ byte_of (keep left.skip left.wanted (bits_of n b)) }
-{
-    if n == 0 {
-        return 0;
-    }
-    let s = keep_bit(b, left);
-    s.bit + 2 * keep_bits(n - 1, b / 2, s.left)
-}
-
-// Walks a byte in which the start stands or the count runs out. No other byte is walked.
-fn walk_bits(b: u8, left: Left) -> u8
-    requires { IsCut b left.skip left.wanted }
-    ensures { result ≡ byte_kept left.skip left.wanted b }
-{
-    keep_bits(8, b, left)
-}
-
 // A byte with the detectors that are kept of it: none before the start or once no more are wanted, and all where the count covers the good ones.
+#[tactic(auto, using(crate::proofs::Bytes::before, crate::proofs::Bytes::run_out, crate::proofs::Bytes::left_whole))]
 fn byte_kept(b: u8, left: Left) -> u8
     ensures { result ≡ byte_kept left.skip left.wanted b }
 {
@@ -96,12 +48,12 @@ fn byte_kept(b: u8, left: Left) -> u8
 }
 
 // A byte of the map, masked, with its ones counted.
-fn walk_byte(b: u8, left: Left) -> Walk
-    ensures { ByteWalked b left.skip left.wanted result.byte result.kept result.left.skip result.left.wanted }
+fn mask_byte(b: u8, left: Left) -> MaskedByte
+    ensures { ByteMasked b left.skip left.wanted result.byte result.kept result.left.skip result.left.wanted }
 {
     let byte = byte_kept(b, left);
     let kept = u8::count_ones(byte);
-    Walk {
+    MaskedByte {
         byte,
         kept,
         left: Left {
@@ -129,7 +81,7 @@ pub fn select_spads(map: [u8; 6], count: u8, aperture: bool) -> Selection
         wanted: count as u32,
     };
     for (i, byte) in map.iter().enumerate() {
-        let w = walk_byte(*byte, left);
+        let w = mask_byte(*byte, left);
         selected[i] = w.byte;
         kept += w.kept;
         left = w.left;

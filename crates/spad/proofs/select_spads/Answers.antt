@@ -15,7 +15,7 @@ loop-i-init c =
 pub loop-i-preserved : goal.loop-i-preserved
 loop-i-preserved c =
     let l = c.loop-i in
-    let w = c.walk_byte-w in
+    let w = c.mask_byte-w in
     let inner : l.i < length c.args.map = omega arith in
     let room : l.i < length l.selected = omega arith in (
       length-set l.selected l.i w.result.byte ∙ l.invariant.0,

@@ -1,11 +1,11 @@
--- `spad::walk_byte` meets its contract: a masked byte has at most 8 ones, and at most as many as are wanted.
+-- `spad::mask_byte` meets its contract: a masked byte has at most 8 ones, and at most as many as are wanted.
 use mathlib.Core.Path.{◌≡◌, refl}
 use Prim.Native.Nat.{ℕ, ◌≤◌}
 use native.Mathlib.Omega.{arith}
 use lib.Count.{ones, ones-le}
 use Rattle.spad.specs.Map.{bits_of, byte_of, keep}
 use Rattle.spad.proofs.Keep.{ones_byte, trues_le, kept_lt}
-use Rattle.spad.proofs.walk_byte.Goals as goal
+use Rattle.spad.proofs.mask_byte.Goals as goal
 
 module _ (r b skip n : ℕ) (masked : r ≡ byte_of (keep skip n (bits_of 8 b))) where
   wanted-most : ones r ≤ n

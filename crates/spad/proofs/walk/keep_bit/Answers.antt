@@ -3,7 +3,7 @@ use Prim.Native.Nat.{◌%◌}
 use native.Mathlib.Omega.{arith}
 use lib.Dec.{eqb}
 use Rattle.spad.proofs.Keep.{keep_skip, keep_none, keep_one}
-use Rattle.spad.proofs.keep_bit.Goals as goal
+use Rattle.spad.proofs.walk.keep_bit.Goals as goal
 
 pub returns-then-left-gt0 : goal.returns-then-left-gt0
 returns-then-left-gt0 c =

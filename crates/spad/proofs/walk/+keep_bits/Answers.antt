@@ -4,7 +4,7 @@ use Prim.Native.Nat.{ℕ, ◌+◌, ◌-◌, ◌*◌, ◌/◌, ◌<◌, ◌≤◌
 use native.Mathlib.Omega.{arith}
 use Rattle.spad.specs.Map.{bits_of, byte_of, keep}
 use Rattle.spad.proofs.Keep.{step, kept_half}
-use Rattle.spad.proofs.+keep_bits.Goals as goal
+use Rattle.spad.proofs.walk.+keep_bits.Goals as goal
 
 none : (n b skip wanted : ℕ) → n ≡ 0 → 0 ≡ byte_of (keep skip wanted (bits_of n b))
 unfolding bits_of keep byte_of
