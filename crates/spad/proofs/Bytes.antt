@@ -28,7 +28,7 @@ keep_all (suc n) (true ∷ xs) h = ap (λ z. true ∷ z) (keep_all n xs (omega a
 keep_all (suc n) (false ∷ xs) h = ap (λ z. false ∷ z) (keep_all (suc n) xs (omega arith))
 
 -- the ones of a walked byte
-kept_ones : (s n b : ℕ) → ones (byte_kept s n b) ≡ min n (trues (drop s (bits_of 8 b)))
+pub kept_ones : (s n b : ℕ) → ones (byte_kept s n b) ≡ min n (trues (drop s (bits_of 8 b)))
 kept_ones s n b = ones_byte (keep s n (bits_of 8 b)) ∙ kept_count s n (bits_of 8 b)
 
 module _ (b : ℕ) (small : b < 256) where
@@ -146,7 +146,6 @@ module _ (m : List ℕ) (count : ℕ) (aperture : Bool) (six : length m ≡ 6) w
   two : ((i : ℕ) → get_or m i 0 < 256) → (i j k : ℕ) → i < j → j < k → k < 6
       → IsCutAt m count aperture i → IsCutAt m count aperture j → wanted_at m count aperture k ≡ 0
   two small i j k p q h a b =
-      let s = first_spad aperture in
       let z : skip_at aperture j ≡ 0 = omega (arith, start_low aperture, a.started) in
       let o : ones (byte_kept_at m count aperture j) ≡ min (wanted_at m count aperture j) (ones (get_or m j 0)) =
       rw z (kept_ones 0 (wanted_at m count aperture j) (get_or m j 0) ∙ rw (good (get_or m j 0) (small j)) refl) in

@@ -77,9 +77,6 @@ kept_count zero zero (x ∷ xs) = let h = kept_count zero zero xs in omega arith
 kept_count zero (suc n) (true ∷ xs) = let h = kept_count zero n xs in omega arith
 kept_count zero (suc n) (false ∷ xs) = let h = kept_count zero (suc n) xs in omega arith
 
-pub trues_le : (s n : ℕ) (xs : List Bool) → trues (keep s n xs) ≤ n
-trues_le s n xs = omega (arith, kept_count s n xs)
-
 bit_lt : (x : Bool) (v p : ℕ) → v < p → cond x 1 0 + 2 * v < 2 * p
 bit_lt true v p h = omega arith
 bit_lt false v p h = omega arith
