@@ -28,9 +28,11 @@ pub trait Show {
 }
 
 // What a record gave; for spare bytes answer 14.
+#[derive(Clone, Copy)]
 pub struct Outcomes;
 
 // The driver's fields after a record; spare bytes leave them.
+#[derive(Clone, Copy)]
 pub struct Fields;
 
 impl Show for Outcomes {

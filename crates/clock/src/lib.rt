@@ -2,7 +2,7 @@
 // clock cannot be handed over as another. Where the Rust panics, the answer is the place.
 #![tactic(auto)]
 
-ghost use Rattle.std.specs.Prelude.{◌≡◌, ◌+◌, ◌%◌, ◌^◌};
+ghost use Rattle.std.specs.Prelude.{◌≡◌, ◌+◌, ◌%◌, ◌^◌, Some, decimal};
 ghost use Rattle.clock.specs.Places.{place_number};
 ghost use Rattle.clock.specs.Clock.{shifted, decoded_timeout, halved, encoded_timeout};
 ghost use Rattle.clock.specs.Clock.{decoded_vcsel_period, encoded_vcsel_period, macro_period};
@@ -58,6 +58,8 @@ impl From<Place> for u8 {
 }
 
 impl fmt::Display for Place {
+    ghost output = { λ place. Some (decimal (place_number place)) };
+
     fn fmt<W: fmt::Write>(&self, f: &mut fmt::Formatter<W>) -> fmt::Result {
         write!(f, "{}", u8::from(*self))
     }

@@ -9,7 +9,9 @@ mod timeouts;
 use clock::Place;
 pub use places::first_place;
 pub use registers::{sequence_step_enables, timing_registers};
-pub use timeouts::{final_time, msrc_time, pre_share, pre_time, step_clocks, time_in};
+pub use timeouts::{
+    final_time, msrc_time, period_clocks, pre_share, pre_time, step_clocks, time_in,
+};
 
 // The six budget replies, by the register that each was read from.
 #[derive(Clone, Copy)]

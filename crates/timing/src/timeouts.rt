@@ -16,7 +16,7 @@ pub fn timeout_clocks(word: u16) -> Mclks
 }
 
 #[tactic(auto, unfolding(crate::specs::Timeouts::period_clocks))]
-fn period_clocks(byte: u8) -> Pclks
+pub fn period_clocks(byte: u8) -> Pclks
     ensures { result ≡ period_clocks byte }
 {
     clock::decode_vcsel_period(byte).unwrap_or(Pclks(0))
